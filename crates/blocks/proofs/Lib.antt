@@ -1,0 +1,4 @@
+-- Laws of one block.
+pub mod Folds
+pub mod Table
+pub mod PortTable

@@ -1,0 +1,23 @@
+-- The operations on words of 32 bits, and the port that a select word names (document 01, "Blocks and ports" and "One cycle").
+-- Assumes nothing.
+use Prim.Native.Nat.{ℕ, zero, suc, _+_, _-_, _%_, _^_}
+use mathlib.Core.Bool.{cond}
+use mathlib.Core.Option.{Option, none, some}
+use lib.Dec.{eqb, ltb}
+use Rattle.blocks.specs.Folds.{one}
+
+-- 0 add, 1 subtract the second from the first, 2 equal, 3 first less than second; sums and differences go round at 2^32
+unfoldable pub operate : ℕ → ℕ → ℕ → ℕ
+operate zero a b = (a + b) % 2 ^ 32
+operate (suc zero) a b = (a + (2 ^ 32 - b)) % 2 ^ 32
+operate (suc (suc zero)) a b = one (eqb a b)
+operate (suc (suc (suc o))) a b = one (ltb a b)
+
+-- The port, of m, that a select word names: none at or above m. The equations and the queue machine both read it here.
+unfoldable pub reach : ℕ → ℕ → Option ℕ
+reach m s = cond (ltb s m) (some s) none
+
+-- the same as a number, m where there is none: as the code has it
+abbrev pub portOr : ℕ → Option ℕ → ℕ
+portOr d none = d
+portOr d (some t) = t

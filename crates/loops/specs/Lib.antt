@@ -1,0 +1,2 @@
+-- What a reader must believe of walks and loops.
+pub mod Walk

@@ -1,0 +1,1 @@
+// Walks and loops: definitions and laws alone, in specs/ and proofs/. No code.

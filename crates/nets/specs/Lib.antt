@@ -1,0 +1,7 @@
+-- What a reader must believe of net values, in document 01's order.
+pub mod Block
+pub mod Net
+pub mod Loops
+pub mod Verdict
+-- What stepping rests on.
+pub mod Promises
