@@ -2,3 +2,5 @@
 pub mod Folds
 pub mod Table
 pub mod PortTable
+pub mod Bits
+pub mod Registers

@@ -1,6 +1,6 @@
 -- The table of port counts holds the rule of the blocks: one test, computed at all of its 256 entries.
 -- Assumes nothing.
-use mathlib.Core.Path.{_≡_, refl, ap₂, _∙_, sym, subst}
+use mathlib.Core.Path.{_≡_, refl, ap₂, _∙_, subst}
 use mathlib.Core.Bool.{Bool, true, false, cond, _&&_}
 use mathlib.Core.List.{List, [], _∷_}
 use mathlib.Core.Logic.{_⊎_, inl, inr}

@@ -1,7 +1,7 @@
 -- What a port shows and what a block's registers hold (document 01, "One cycle"): V is `valid`; R is a Bool of its own, by port.
 -- Assumes nothing.
 use Prim.Native.Nat.{ℕ}
-use mathlib.Core.Bool.{Bool, true, false, cond}
+use mathlib.Core.Bool.{Bool, false, cond}
 use mathlib.Core.Option.{Option, none, some}
 use lib.Dec.{eqb}
 use Rattle.blocks.specs.declared.Sig.{Sig}

@@ -1,5 +1,8 @@
 // One block, with no wiring: its kind and ports, what it shows and takes in a cycle, its next registers and their shape.
+pub mod cycle;
 pub mod kinds;
+pub mod shape;
+pub mod words;
 
 // What a port shows: whether it is valid, and its word, 0 where it is not.
 pub struct Sig {

@@ -1,8 +1,8 @@
 -- A loop on which every block has a property, said in two ways: the property of every block on the loop, or of both ends of every channel.
 -- Assumes nothing.
-use mathlib.Core.Path.{_≡_, refl, sym, subst}
+use mathlib.Core.Path.{refl, sym, subst}
 use mathlib.Core.List.{List, [], _∷_}
-use mathlib.Core.Logic.{_⊎_, inl, inr}
+use mathlib.Core.Logic.{inl, inr}
 use Prim.Native.Nat.{ℕ}
 use Rattle.loops.specs.Walk.{Walk, Loop, On, LoopOf}
 

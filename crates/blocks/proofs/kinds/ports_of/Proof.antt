@@ -1,9 +1,8 @@
 -- `blocks::kinds::ports_of` meets its contract: the table's rule, and that no number above 15 is in use.
 -- Assumes nothing.
-use mathlib.Core.Path.{_≡_, _∙_, sym}
+use mathlib.Core.Path.{sym}
 use borrow.Author.Needs.{needs}
 use native.Mathlib.Omega.{arith}
-use Rattle.blocks.specs.Ports.{portsOf}
 use Rattle.blocks.proofs.PortTable.{table, unused-entry, used-entry, wide-m, wide-kind}
 use Rattle.blocks.proofs.kinds.ports_of.Statement.{statement}
 use Rattle.blocks.proofs.kinds.ports_of.Tie as tie
