@@ -4,3 +4,8 @@ pub mod Table
 pub mod PortTable
 pub mod Bits
 pub mod Registers
+pub mod Options
+pub mod Local
+pub mod Turns
+pub mod Shapes
+pub mod Trials

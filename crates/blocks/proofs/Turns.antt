@@ -1,0 +1,86 @@
+-- Laws of a block's firing: more words waiting change nothing of what it does, and it takes only words that wait.
+-- Assumes nothing.
+use Prim.Native.Nat.{ℕ, zero, suc, _<_}
+use mathlib.Core.Path.{_≡_, refl, sym, ap, _∙_}
+use mathlib.Core.Logic.{_⊎_, inl, inr}
+use mathlib.Core.Option.{Option, some, Option·some-injective}
+use native.Mathlib.Omega.{arith}
+use borrow.Author.Tests.{eqb-true}
+use lib.Dec.{eqb}
+use Rattle.blocks.specs.Kinds.{Kind, source, sink, operator, constant, fork, mux, demux, merge, buffer, control, unused}
+use Rattle.blocks.specs.Ports.{nIn}
+use Rattle.blocks.specs.Words.{reach}
+use Rattle.blocks.specs.Firing.{Turn, choose, turn}
+use Rattle.blocks.proofs.Options.{none-some, test, Below, then-below, then-there, reach-below}
+
+-- A firing sees only what its inputs hold: with more words behind them, it does the same.
+abbrev pub Sees : Kind → (ℕ → Option ℕ) → (ℕ → Option ℕ) → Type 0
+Sees K f g = (i : ℕ) → i < nIn K → Below (f i) (g i)
+
+abbrev kept : {o : Option Turn} → Below o o
+kept t e = e
+
+pub turn-below : (K : Kind) (k : ℕ) (f g : ℕ → Option ℕ) → Sees K f g → Below (turn K k f) (turn K k g)
+turn-below (source xs) k f g h = λ t e. e
+turn-below sink k f g h = then-below (f 0) (g 0) _ _ (h 0 (omega arith)) (λ a e. kept)
+turn-below (operator o) k f g h = then-below (f 0) (g 0) _ _ (h 0 (omega arith)) (λ a e. then-below (f 1) (g 1) _ _ (h 1 (omega arith)) (λ b e′. kept))
+turn-below (constant o v) k f g h = then-below (f 0) (g 0) _ _ (h 0 (omega arith)) (λ a e. kept)
+turn-below (fork m) k f g h = then-below (f 0) (g 0) _ _ (h 0 (omega arith)) (λ a e. kept)
+turn-below (mux m) k f g h =
+    then-below (f 0) (g 0) _ _ (h 0 (omega arith)) (λ s e. then-below (reach m s) (reach m s) _ _ (λ t z. z) (λ t z.
+    then-below (f (suc t)) (g (suc t)) _ _ (h (suc t) (omega (arith, reach-below m s t z))) (λ a e′. kept)))
+turn-below (demux m) k f g h =
+    then-below (f 0) (g 0) _ _ (h 0 (omega arith)) (λ s e. then-below (reach m s) (reach m s) _ _ (λ t z. z) (λ t z. then-below (f 1) (g 1) _ _ (h 1 (omega arith)) (λ a e′. kept)))
+turn-below (merge m) k f g h = λ t e. e
+turn-below (buffer o) k f g h = then-below (f 0) (g 0) _ _ (h 0 (omega arith)) (λ a e. kept)
+turn-below control k f g h = then-below (f 0) (g 0) _ _ (h 0 (omega arith)) (λ a e. kept)
+turn-below unused k f g h = λ t e. e
+
+-- ## A firing takes no more than one word from an input, and only a word that waits
+
+abbrev pub Takes : Turn → (ℕ → Option ℕ) → ℕ → Type 0
+Takes t f i = (t .takes i ≡ 0) ⊎ ((t .takes i ≡ 1) × ((w : ℕ) × (f i ≡ some w)))
+
+same-turn : (t u : Turn) → some t ≡ some u → (i : ℕ) → u .takes i ≡ t .takes i
+same-turn t u e i = ap (λ (x : Turn). x .takes i) (sym (Option·some-injective t u e))
+
+-- a firing that takes one word from each of its inputs
+one-input : (f : ℕ → Option ℕ) (t u : Turn) (a : ℕ) → some t ≡ some u → t .takes 0 ≡ 1 → f 0 ≡ some a → (i : ℕ) → i < 1 → Takes u f i
+one-input f t u a e k h zero l = inr (same-turn t u e 0 ∙ k, (a, h))
+one-input f t u a e k h (suc i) l = absurd (omega arith)
+
+two-inputs : (f : ℕ → Option ℕ) (t u : Turn) (a b : ℕ) → some t ≡ some u → t .takes 0 ≡ 1 → t .takes 1 ≡ 1 → f 0 ≡ some a → f 1 ≡ some b → (i : ℕ) → i < 2 → Takes u f i
+two-inputs f t u a b e k k′ h h′ zero l = inr (same-turn t u e 0 ∙ k, (a, h))
+two-inputs f t u a b e k k′ h h′ (suc zero) l = inr (same-turn t u e 1 ∙ k′, (b, h′))
+two-inputs f t u a b e k k′ h h′ (suc (suc i)) l = absurd (omega arith)
+
+mux-inputs : (f : ℕ → Option ℕ) (u : Turn) (s t a : ℕ) → some (choose t a) ≡ some u → f 0 ≡ some s → f (suc t) ≡ some a → (i : ℕ) → Takes u f i
+mux-inputs f u s t a e h h′ zero = inr (same-turn (choose t a) u e 0, (s, h))
+mux-inputs f u s t a e h h′ (suc i) =
+    test (eqb i t)
+    (λ q. inr (same-turn (choose t a) u e (suc i) ∙ rw q, (a, ap (λ (x : ℕ). f (suc x)) (eqb-true i t q) ∙ h′)))
+    (λ q. inl (same-turn (choose t a) u e (suc i) ∙ rw q))
+
+pub turn-takes : (K : Kind) (k : ℕ) (f : ℕ → Option ℕ) (u : Turn) → turn K k f ≡ some u → (i : ℕ) → i < nIn K → Takes u f i
+turn-takes (source xs) k f u e i l = absurd (omega arith)
+turn-takes sink k f u e i l = let a = then-there (f 0) _ u e in one-input f _ u (a .0) (a .2) refl (a .1) i l
+turn-takes (operator o) k f u e i l =
+    let a = then-there (f 0) _ u e in
+    let b = then-there (f 1) _ u (a .2) in
+    two-inputs f _ u (a .0) (b .0) (b .2) refl refl (a .1) (b .1) i l
+turn-takes (constant o v) k f u e i l = let a = then-there (f 0) _ u e in one-input f _ u (a .0) (a .2) refl (a .1) i l
+turn-takes (fork m) k f u e i l = let a = then-there (f 0) _ u e in one-input f _ u (a .0) (a .2) refl (a .1) i l
+turn-takes (mux m) k f u e i l =
+    let s = then-there (f 0) _ u e in
+    let t = then-there (reach m (s .0)) _ u (s .2) in
+    let a = then-there (f (suc (t .0))) _ u (t .2) in
+    mux-inputs f u (s .0) (t .0) (a .0) (a .2) (s .1) (a .1) i
+turn-takes (demux m) k f u e i l =
+    let s = then-there (f 0) _ u e in
+    let t = then-there (reach m (s .0)) _ u (s .2) in
+    let a = then-there (f 1) _ u (t .2) in
+    two-inputs f _ u (s .0) (a .0) (a .2) refl refl (s .1) (a .1) i l
+turn-takes (merge m) k f u e i l = none-some e
+turn-takes (buffer o) k f u e i l = let a = then-there (f 0) _ u e in one-input f _ u (a .0) (a .2) refl (a .1) i l
+turn-takes control k f u e i l = let a = then-there (f 0) _ u e in one-input f _ u (a .0) (a .2) refl (a .1) i l
+turn-takes unused k f u e i l = none-some e
