@@ -31,20 +31,20 @@ fresh-zero (suc (suc (suc (suc (suc (suc (suc (suc (suc (suc zero)))))))))) m v 
 fresh-zero (suc (suc (suc (suc (suc (suc (suc (suc (suc (suc (suc k))))))))))) m v xs n = refl
 
 -- the kinds whose registers no rule names
-pub shape-zero : (kind m : ℕ) (r : Reg) → (kind ≡ 0 → ⊥) → (kind ≡ 4 → ⊥) → (kind ≡ 7 → ⊥) → (kind ≡ 8 → ⊥) → (kind ≡ 9 → ⊥) → (kind ≡ 10 → ⊥)
-    → zeroReg r ≡ inShape (kindOf kind m 0 []) r
-shape-zero zero m r a b c d e f = absurd (a refl)
-shape-zero (suc zero) m r a b c d e f = refl
-shape-zero (suc (suc zero)) m r a b c d e f = refl
-shape-zero (suc (suc (suc zero))) m r a b c d e f = refl
-shape-zero (suc (suc (suc (suc zero)))) m r a b c d e f = absurd (b refl)
-shape-zero (suc (suc (suc (suc (suc zero))))) m r a b c d e f = refl
-shape-zero (suc (suc (suc (suc (suc (suc zero)))))) m r a b c d e f = refl
-shape-zero (suc (suc (suc (suc (suc (suc (suc zero))))))) m r a b c d e f = absurd (c refl)
-shape-zero (suc (suc (suc (suc (suc (suc (suc (suc zero)))))))) m r a b c d e f = absurd (d refl)
-shape-zero (suc (suc (suc (suc (suc (suc (suc (suc (suc zero))))))))) m r a b c d e f = absurd (e refl)
-shape-zero (suc (suc (suc (suc (suc (suc (suc (suc (suc (suc zero)))))))))) m r a b c d e f = absurd (f refl)
-shape-zero (suc (suc (suc (suc (suc (suc (suc (suc (suc (suc (suc k))))))))))) m r a b c d e f = refl
+pub shape-zero : (kind m value : ℕ) (r : Reg) → (kind ≡ 0 → ⊥) → (kind ≡ 4 → ⊥) → (kind ≡ 7 → ⊥) → (kind ≡ 8 → ⊥) → (kind ≡ 9 → ⊥) → (kind ≡ 10 → ⊥)
+    → zeroReg r ≡ inShape (kindOf kind m value []) r
+shape-zero zero m v r a b c d e f = absurd (a refl)
+shape-zero (suc zero) m v r a b c d e f = refl
+shape-zero (suc (suc zero)) m v r a b c d e f = refl
+shape-zero (suc (suc (suc zero))) m v r a b c d e f = refl
+shape-zero (suc (suc (suc (suc zero)))) m v r a b c d e f = absurd (b refl)
+shape-zero (suc (suc (suc (suc (suc zero))))) m v r a b c d e f = refl
+shape-zero (suc (suc (suc (suc (suc (suc zero)))))) m v r a b c d e f = refl
+shape-zero (suc (suc (suc (suc (suc (suc (suc zero))))))) m v r a b c d e f = absurd (c refl)
+shape-zero (suc (suc (suc (suc (suc (suc (suc (suc zero)))))))) m v r a b c d e f = absurd (d refl)
+shape-zero (suc (suc (suc (suc (suc (suc (suc (suc (suc zero))))))))) m v r a b c d e f = absurd (e refl)
+shape-zero (suc (suc (suc (suc (suc (suc (suc (suc (suc (suc zero)))))))))) m v r a b c d e f = absurd (f refl)
+shape-zero (suc (suc (suc (suc (suc (suc (suc (suc (suc (suc (suc k))))))))))) m v r a b c d e f = refl
 
 -- a signal kept in registers
 abbrev pub keep : Sig → Reg

@@ -1,7 +1,7 @@
 // Whether a block's registers are in shape.
 ghost use mathlib.Core.Path.{_≡_};
 ghost use mathlib.Core.List.{[]};
-ghost use Prim.Native.Nat.{_≤_, _+_, _^_};
+ghost use Prim.Native.Nat.{ℕ, _≤_};
 ghost use Rattle.blocks.specs.Kinds.{kindOf};
 ghost use Rattle.blocks.specs.Shape.{zeroReg, sourceReg, bufferReg, forkReg, mergeReg, inShape};
 use crate::Reg;
@@ -42,7 +42,7 @@ fn merge_reg(m: u8, reg: Reg) -> bool
 // The registers of a block of this kind and m; m is in its kind's range.
 pub fn reg_ok(kind: u8, m: u8, reg: Reg) -> bool
     requires { ⌜ m ≤ 8 ⌝ }
-    ensures { λ r. ⌜ r ≡ inShape (kindOf kind m 0 []) reg ⌝ }
+    ensures { λ r. ⌜ ((value : ℕ) → r ≡ inShape (kindOf kind m value []) reg) ⌝ }
 {
     match kind {
         0 => reg.marks <= 1,
