@@ -4,3 +4,5 @@ pub mod Wires
 pub mod Cycle
 pub mod State
 pub mod Step
+-- What the code of a step is proved against.
+pub mod Solved

@@ -1,0 +1,9 @@
+-- Laws of a cycle and of its states.
+pub mod Numbers
+pub mod Wiring
+pub mod Joins
+pub mod Stepping
+pub mod Solution
+pub mod States
+pub mod Steps
+pub mod Pins
