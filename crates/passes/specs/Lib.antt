@@ -1,0 +1,3 @@
+-- What the contracts of `passes` cite.
+pub mod Rows
+pub mod Passed
