@@ -1,11 +1,11 @@
 -- A net as flat rows, twelve entries a block: kind, m and ten ports. What the passes over all blocks read of it, and what they need of it.
 -- Assumes nothing.
-use Prim.Native.Nat.{ℕ, _+_, _-_, _*_, _≤_, _<_}
+use Prim.Native.Nat.{ℕ, _+_, _*_, _≤_, _<_}
 use mathlib.Core.Path.{_≡_}
 use mathlib.Core.Bool.{Bool, true, false, _||_}
 use mathlib.Core.List.{List, []}
 use lib.Dec.{eqb}
-use lib.ListN.{length, getD}
+use lib.ListN.{getD}
 use Rattle.blocks.specs.Folds.{countBelow}
 use Rattle.blocks.specs.Kinds.{Kind, kindOf}
 use Rattle.blocks.specs.Ports.{mOk, inputsOf, outputsOf}
@@ -55,21 +55,22 @@ pub record Rowed (rows : List ℕ) (n : ℕ) : Type 0 where
 abbrev pub Shaped : List ℕ → ℕ → List ℕ → List ℕ → Type 0
 Shaped rows n words marks = (b : ℕ) → b < n → inShape (kindOf (kindNo rows b) (mNo rows b) 0 []) (regIn words marks b) ≡ true
 
--- every block once, each after the blocks that it asks; forward a block asks the producers of its inputs unless it is a data buffer
-pub record AheadOrder (rows : List ℕ) (n : ℕ) (order : List ℕ) : Type 0 where
+-- every block of n has one place in the list
+pub record Order (n : ℕ) (order : List ℕ) : Type 0 where
   pub place : ℕ → ℕ
   pub listed : (k : ℕ) → k < n → (getD order k 0 < n) × (place (getD order k 0) ≡ k)
   pub stands : (b : ℕ) → b < n → (place b < n) × (getD order (place b) 0 ≡ b)
-  pub before : (a b i j : ℕ) → a < n → b < n → i < outsNo rows a → j < insNo rows b → outNo rows a i ≡ inNo rows b j
-      → (eqb (kindNo rows b) 8 || eqb (kindNo rows b) 9) ≡ false → place a < place b
 
--- backward it asks the consumers of its outputs, unless it is a control buffer: they stand after it, so the order is followed from its end
-pub record BackOrder (rows : List ℕ) (n : ℕ) (order : List ℕ) : Type 0 where
-  pub place : ℕ → ℕ
-  pub listed : (k : ℕ) → k < n → (getD order k 0 < n) × (place (getD order k 0) ≡ k)
-  pub stands : (b : ℕ) → b < n → (place b < n) × (getD order (place b) 0 ≡ b)
-  pub after : (a b i j : ℕ) → a < n → b < n → i < outsNo rows a → j < insNo rows b → outNo rows a i ≡ inNo rows b j
-      → eqb (kindNo rows a) 10 ≡ false → place a < place b
+-- along a channel from block a to block b the places grow, unless b is a data buffer (valid) or a is a control buffer (ready)
+pub record Ahead (rows : List ℕ) (n : ℕ) (order : List ℕ) : Type 0 where
+  pub list : Order n order
+  pub grows : (a b i j : ℕ) → a < n → b < n → i < outsNo rows a → j < insNo rows b → outNo rows a i ≡ inNo rows b j
+      → (eqb (kindNo rows b) 8 || eqb (kindNo rows b) 9) ≡ false → list .place a < list .place b
+
+pub record Back (rows : List ℕ) (n : ℕ) (order : List ℕ) : Type 0 where
+  pub list : Order n order
+  pub grows : (a b i j : ℕ) → a < n → b < n → i < outsNo rows a → j < insNo rows b → outNo rows a i ≡ inNo rows b j
+      → eqb (kindNo rows a) 10 ≡ false → list .place a < list .place b
 
 -- block b is of this kind
 abbrev pub isKindNo : List ℕ → ℕ → ℕ → Bool
