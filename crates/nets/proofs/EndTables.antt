@@ -63,7 +63,7 @@ module _ (rows : List ℕ) (side : Bool) where
 
     -- a port on the side, whose channel has no block yet
     module _ (table : List ℕ) (s : rowSide rows side i j ≡ true) (small : rowPort rows i j < 128) (es : Entries rows side table (i * 10 + j)) where
-      pub entries-new : i < 64 → length table ≡ 128 → getD table (rowPort rows i j) 0 ≡ 255 → Entries rows side (set table (rowPort rows i j) i) (i * 10 + j + 1)
+      entries-new : i < 64 → length table ≡ 128 → getD table (rowPort rows i j) 0 ≡ 255 → Entries rows side (set table (rowPort rows i j) i) (i * 10 + j + 1)
       entries-new b long free c h = go (ℕ-discrete c (rowPort rows i j))
         where
           go : Dec (c ≡ rowPort rows i j) → Entry rows side c (i * 10 + j + 1) (getD (set table (rowPort rows i j) i) c 0)
@@ -75,7 +75,7 @@ module _ (rows : List ℕ) (side : Bool) where
               rw (getD-set-other table (rowPort rows i j) c i 0 e) (entry-skip c (i * 10 + j) (getD table c 0) (other-names c e) (es c h))
 
       -- or has one already
-      pub entries-clash : (n : ℕ) → i * 10 + j < n → (getD table (rowPort rows i j) 0 ≡ 255 → ⊥) → Double rows side n
+      entries-clash : (n : ℕ) → i * 10 + j < n → (getD table (rowPort rows i j) 0 ≡ 255 → ⊥) → Double rows side n
       entries-clash n b full =
           (rowPort rows i j, entry-clash (rowPort rows i j) (i * 10 + j) n (getD table (rowPort rows i j) 0) b (on-names s) full (es (rowPort rows i j) small))
 
@@ -87,26 +87,26 @@ module _ (rows : List ℕ) (side : Bool) where
       subst (λ (q : ℕ). Entries rows side table q) (omega arith)
       (entries-skip i (j + n) (omega arith) table (off (j + n) (omega arith) (omega arith)) (entries-skips table i j n (omega arith) (λ k a b. off k a (omega arith)) es))
 
-  module _ (table : List ℕ) (i : ℕ) where
+  module _ (i : ℕ) where
     before-side : (k : ℕ) → k < firstOn rows side i → rowSide rows side i k ≡ false
     before-side k h = and-false-1 (leb (firstOn rows side i) k) (ltb k (lastOn rows side i)) (lt-leb (firstOn rows side i) k h)
 
     after-side : (k : ℕ) → lastOn rows side i ≤ k → rowSide rows side i k ≡ false
     after-side k h = and-false-2 (leb (firstOn rows side i) k) (ltb k (lastOn rows side i)) (le-ltb k (lastOn rows side i) h)
 
-    pub on-side : (k : ℕ) → firstOn rows side i ≤ k → k < lastOn rows side i → rowSide rows side i k ≡ true
+    on-side : (k : ℕ) → firstOn rows side i ≤ k → k < lastOn rows side i → rowSide rows side i k ≡ true
     on-side k a b =
         and-both (leb (firstOn rows side i) k) (ltb k (lastOn rows side i)) (le-leb (firstOn rows side i) k a) (lt-ltb k (lastOn rows side i) b)
 
     -- the ports before the side's first
-    pub entries-first : firstOn rows side i ≤ 10 → Entries rows side table (i * 10) → Entries rows side table (i * 10 + firstOn rows side i)
-    entries-first h es =
+    entries-first : (table : List ℕ) → firstOn rows side i ≤ 10 → Entries rows side table (i * 10) → Entries rows side table (i * 10 + firstOn rows side i)
+    entries-first table h es =
         subst (λ (q : ℕ). Entries rows side table q) (omega arith)
         (entries-skips table i 0 (firstOn rows side i) (omega arith) (λ k a b. before-side k (omega arith)) (subst (λ (q : ℕ). Entries rows side table q) (omega arith) es))
 
     -- the ports beyond its last
-    pub entries-last : (j : ℕ) → lastOn rows side i ≤ j → j ≤ 10 → Entries rows side table (i * 10 + j) → Entries rows side table (i * 10 + 10)
-    entries-last j h t es =
+    entries-last : (table : List ℕ) (j : ℕ) → lastOn rows side i ≤ j → j ≤ 10 → Entries rows side table (i * 10 + j) → Entries rows side table (i * 10 + 10)
+    entries-last table j h t es =
         subst (λ (q : ℕ). Entries rows side table q) (omega arith)
         (entries-skips table i j (10 - j) (omega arith) (λ k a b. after-side k (omega arith)) es)
 
@@ -138,7 +138,7 @@ module _ (rows : List ℕ) (side : Bool) where
           low = omega arith;
           high = side-range .0;
           long = long;
-          entered = entries-first table i (omega (arith, side-range, sound .ports-few)) es;
+          entered = entries-first i table (omega (arith, side-range, sound .ports-few)) es;
         })
 
     pub filling-step : (table : List ℕ) (j : ℕ) → i < 64 → j < lastOn rows side i → getD table (rowPort rows i j) 0 ≡ 255 → Filling table i j → Filling (set table (rowPort rows i j) i) i (j + 1)
@@ -148,7 +148,7 @@ module _ (rows : List ℕ) (side : Bool) where
           high = omega arith;
           long = length-set table (rowPort rows i j) i ∙ f .long;
           entered = subst (λ (q : ℕ). Entries rows side (set table (rowPort rows i j) i) q) (omega arith)
-              (entries-new i j (side-port j h .0) table (on-side table i j (f .low) h) (side-port j h .1) (f .entered) b (f .long) free);
+              (entries-new i j (side-port j h .0) table (on-side i j (f .low) h) (side-port j h .1) (f .entered) b (f .long) free);
         }
 
     pub filling-clash : (table : List ℕ) (j : ℕ) → j < lastOn rows side i → (getD table (rowPort rows i j) 0 ≡ 255 → ⊥) → Filling table i j → Filled rows side i false table
@@ -156,14 +156,14 @@ module _ (rows : List ℕ) (side : Bool) where
         record {
           whole = λ t. clash t refl;
           double = λ g.
-              entries-clash i j (side-port j h .0) table (on-side table i j (f .low) h) (side-port j h .1) (f .entered) (i * 10 + 10)
+              entries-clash i j (side-port j h .0) table (on-side i j (f .low) h) (side-port j h .1) (f .entered) (i * 10 + 10)
               (omega (arith, side-port j h .0)) full;
         }
 
     pub filling-end : (table : List ℕ) (j : ℕ) → lastOn rows side i ≤ j → Filling table i j → Filled rows side i true table
     filling-end table j h f =
         record {
-          whole = λ t. entries-last table i j h (omega (arith, f .high, side-range, sound .ports-few)) (f .entered);
+          whole = λ t. entries-last i table j h (omega (arith, f .high, side-range, sound .ports-few)) (f .entered);
           double = λ g. clash refl g;
         }
 

@@ -56,14 +56,17 @@ module _ (control : Bool) (rows producer places : List ℕ) (b : ℕ) where
   unfolding mayPlace
   place-all j h a = all-less (fedAt control rows producer places b) j (rowIns rows b) h a
 
-  pub next-yes : getD places b 0 ≡ 0 → mayPlace control rows producer places b ≡ true → nextAt control rows producer places b ≡ true
-  next-yes z m = rw (eq-eqb (getD places b 0) 0 z) m
+  -- by the answer of the test whether b may be placed
+  pub next-yes : (may : Bool) → getD places b 0 ≡ 0 → may ≡ mayPlace control rows producer places b → may ≡ true → nextAt control rows producer places b ≡ true
+  next-yes may z m t = rw (eq-eqb (getD places b 0) 0 z) (sym m ∙ t)
 
   pub passed-placed : (getD places b 0 ≡ 0 → ⊥) → passedAt control rows producer places b ≡ true
   passed-placed n = rw (ne-eqb (getD places b 0) 0 n)
 
-  pub passed-waits : getD places b 0 ≡ 0 → mayPlace control rows producer places b ≡ false → passedAt control rows producer places b ≡ true
-  passed-waits z m = rw (eq-eqb (getD places b 0) 0 z, m)
+  pub passed-waits : (may : Bool) → getD places b 0 ≡ 0 → may ≡ mayPlace control rows producer places b → may ≡ false → passedAt control rows producer places b ≡ true
+  passed-waits may z m t =
+      let n : mayPlace control rows producer places b ≡ false = sym m ∙ t in
+      rw (eq-eqb (getD places b 0) 0 z, n)
 
 pub feeds-more : (rows producer : List ℕ) (size n b : ℕ) → size ≤ n → Feeds rows producer size b → Feeds rows producer n b
 feeds-more rows producer size n b h f =

@@ -33,6 +33,7 @@ cast-size c = search needs
 cast-channels : tie.Need-cast-channels
 cast-channels c = search needs
 
+-- the fields pass
 abbrev net-1 : tie.Else1 → Net
 net-1 c = c .before .before .before .args .net
 
@@ -51,6 +52,7 @@ returns-2 c =
     refused-plan _ _ Connection (c .refused2 .ensures) (omega arith)
     (k .fields, not-joined _ _ (k .all-rows) (k .fields) true _ _ (c .before .before .before .ends-of .ensures) (search (not-true)))
 
+-- every channel leaves one block
 abbrev fields-2 : tie.Else2 → tie.Else1
 fields-2 c = c .before .before .before .before .before .before
 
@@ -71,6 +73,7 @@ returns-3 c =
     refused-plan _ _ Connection (c .refused3 .ensures) (omega arith)
     (k .fields, not-joined _ _ (k .all-rows) (k .fields) false _ _ (c .before .before .before .ends-of2 .ensures) (search (not-true)))
 
+-- and enters one
 abbrev from-3 : tie.Else3 → tie.Else2
 from-3 c = c .before .before .before .before
 
@@ -102,6 +105,7 @@ returns-4 c =
     refused-plan _ _ Ends (c .refused4 .ensures) (omega arith)
     (k .fields, (joins d, sym (few-same _ _ (k .all-rows)) ∙ sym (c .before .before .few-ends .ensures) ∙ search (not-true)))
 
+-- the sources and sinks are few
 abbrev joins-4 : tie.Else4 → tie.Else3
 joins-4 c = c .before .before .before
 
@@ -132,6 +136,7 @@ returns-5 c =
     refused-plan _ _ DataLoop (c .refused5 .ensures) (omega arith)
     (joined d, loop-is _ _ (known (fields-2 e)) _ (producers e) false _ _ (c .before .before .before .order-of .ensures) (search (not-true)))
 
+-- there is an order for valid
 abbrev joined-5 : tie.Else5 → tie.Else4
 joined-5 c = c .before .before .before .before .before .before
 
@@ -160,6 +165,7 @@ returns-6 c =
       ),
     )
 
+-- and one that gives ready
 abbrev forth-6 : tie.Else6 → tie.Else5
 forth-6 c = c .before .before .before .before .before
 

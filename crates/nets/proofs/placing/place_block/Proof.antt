@@ -1,6 +1,6 @@
 -- `nets::placing::place_block` meets its contract: the block has a place already, or an input is not fed, or it is placed.
 -- Assumes nothing.
-use mathlib.Core.Path.{_≡_, sym, _∙_}
+use mathlib.Core.Path.{_≡_}
 use mathlib.Core.Bool.{true}
 use Prim.Native.Nat.{_<_}
 use native.Mathlib.Omega.{arith}
@@ -31,8 +31,8 @@ returns-2 c =
     let s = c .before .before .before .before .before in
     let a = s .args in
     stepped-pass _ _ _ _ _ _ _ _ (s .pre .1 .1 .1)
-    (passed-waits (a .control) (now (a .rows)) (now (a .producer)) (now (a .places)) (a .b) (c .before .before .before .if1 .left)
-    (sym (c .before .may-place .ensures) ∙ search (not-true)))
+    (passed-waits (a .control) (now (a .rows)) (now (a .producer)) (now (a .places)) (a .b) _ (c .before .before .before .if1 .left)
+    (c .before .may-place .ensures) (search (not-true)))
 
 -- the block can be placed
 next : (c : tie.Else2)
@@ -41,8 +41,8 @@ next : (c : tie.Else2)
     (c .before .before .before .before .before .args .b) ≡ true
 next c =
     let a = c .before .before .before .before .before .args in
-    next-yes (a .control) (now (a .rows)) (now (a .producer)) (now (a .places)) (a .b) (c .before .before .before .if1 .left)
-    (sym (c .before .may-place .ensures) ∙ search (not-false))
+    next-yes (a .control) (now (a .rows)) (now (a .producer)) (now (a .places)) (a .b) _ (c .before .before .before .if1 .left)
+    (c .before .may-place .ensures) (search (not-false))
 
 -- and there is room for it
 has-room : (c : tie.Else2) → c .before .before .before .before .before .args .count < c .before .before .before .before .before .args .size
