@@ -1,0 +1,5 @@
+-- Laws of the stored form.
+pub mod Codecs
+pub mod Places
+pub mod Many
+pub mod Loads
