@@ -20,7 +20,7 @@ use Rattle.blocks.proofs.Folds.{clash, and-1, and-2}
 use Rattle.blocks.proofs.PortTable.{total, total-small, wide-m, unused}
 use Rattle.nets.specs.declared.Block.{Block}
 use Rattle.nets.specs.declared.Net.{Net}
-use Rattle.forms.specs.Form.{portCount, padded, zeroBlock, Taken, got, refused, andThen, check, takeField, takeTested, between, takeMany, takePort, takeValue, takeRest, takeValued, takeBlock, takeBlocks, takeCounts, takeNet, blank, blankEnd, loaded, denied, finish, parse, putField, putMany, putValue, putBlock, putNet, encode, bytesOf, pack, formOf}
+use Rattle.forms.specs.Form.{portCount, padded, zeroBlock, Taken, got, refused, andThen, check, takeField, takeTested, between, takeMany, takePort, takeValue, takeRest, takeValued, takeBlock, takeBlocks, takeCounts, takeNet, blank, blankEnd, loaded, denied, finish, parse, putField, putMany, putValue, putValued, putBlock, putNet, encode, bytesOf, pack, formOf}
 use Rattle.forms.specs.Sizes.{All, AreBytes}
 
 -- ## What a net's fields are where its form is
@@ -226,7 +226,7 @@ length-ports c b o =
 
 -- a block
 block-there : (c : ℕ) (b : Block) (r : List Bool) → c ≤ 128 → OkBlock c b → takeBlock c (putBlock b r) ≡ got b r
-unfolding takeBlock takeValued takeRest putBlock
+unfolding takeBlock takeValued takeRest putBlock putValued
 block-there c b r h o =
     then-there _ (tested-there 4 (between 0 10) 4 (b .kind) _ (omega (arith, kind-small (b .kind) (b .m) (o .m))) (between-true 0 10 _ (omega arith) (kind-small (b .kind) (b .m) (o .m))))
     (then-there _ (tested-there 4 (mOk (b .kind)) 5 (b .m) _ (m-small (b .kind) (b .m) (o .m)) (o .m))
@@ -235,7 +235,7 @@ block-there c b r h o =
     (ap (λ (ps : List ℕ). got (record { kind = b .kind; m = b .m; value = b .value; ports = ps }) r) (sym (o .padding))))))
 
 pub block-back : (c : ℕ) → c ≤ 128 → (l : List Bool) (b : Block) (r : List Bool) → takeBlock c l ≡ got b r → (putBlock b r ≡ l) × OkBlock c b
-unfolding takeBlock takeValued takeRest putBlock
+unfolding takeBlock takeValued takeRest putBlock putValued
 block-back c s l b r h =
     by-both _ _ _ _ h λ kind r₁ e₁ h₁.
     by-both _ _ _ _ h₁ λ m r₂ e₂ h₂.
@@ -257,7 +257,7 @@ block-back c s l b r h =
     )
 
 pub block-front : (b : Block) (r s : List Bool) → putBlock b r ++ s ≡ putBlock b (r ++ s)
-unfolding putBlock
+unfolding putBlock putValued
 block-front b r s = simp (field-front, value-front, many-front (port-codec 0 (omega arith)))
 
 pub block-codec : (c : ℕ) → c ≤ 128 → Codec (OkBlock c) putBlock (takeBlock c)

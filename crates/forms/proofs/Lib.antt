@@ -3,3 +3,6 @@ pub mod Codecs
 pub mod Places
 pub mod Many
 pub mod Loads
+pub mod Storing
+pub mod Writes
+pub mod Packs

@@ -16,7 +16,7 @@ use Rattle.reader.proofs.Bits.{length-bits}
 use Rattle.blocks.specs.Ports.{hasValue}
 use Rattle.nets.specs.declared.Block.{Block}
 use Rattle.nets.specs.declared.Net.{Net}
-use Rattle.forms.specs.Form.{Taken, got, refused, andThen, takeMany, takeBlock, takeBlocks, portCount, netOf, blank, blankEnd, denied, finish, putField, putValue, putMany, putBlock}
+use Rattle.forms.specs.Form.{Taken, got, refused, andThen, takeMany, takeBlock, takeBlocks, portCount, netOf, blank, blankEnd, denied, finish, putField, putValue, putMany, putValued, putBlock}
 use Rattle.forms.specs.Reads.{blockAnswer, netAnswer}
 use Rattle.forms.specs.declared.Place.the-variants.{Next, Stopped}
 use Rattle.forms.specs.declared.BlockRead.{BlockRead}
@@ -88,7 +88,7 @@ length-ports-bits [] r = omega arith
 length-ports-bits (p ∷ ps) r = omega (arith, length-field 7 p (putMany (putField 7) ps r), length-ports-bits ps r)
 
 pub length-block : (b : Block) (r : List Bool) → length (putBlock b r) ≤ 110 + length r
-unfolding putBlock
+unfolding putBlock putValued
 length-block b r =
     let n = portCount (b .kind) (b .m) in
     let ps = take n (b .ports) in

@@ -142,10 +142,12 @@ putMany one (a ∷ xs) r = one a (putMany one xs r)
 unfoldable pub putValue : Bool → ℕ → List Bool → List Bool
 putValue has v r = cond has (putField 32 v r) r
 
+-- what follows a block's m: its value, where its kind has one, and its ports
+unfoldable pub putValued : Block → List Bool → List Bool
+putValued b r = putValue (hasValue (b .kind)) (b .value) (putMany (putField 7) (take (portCount (b .kind) (b .m)) (b .ports)) r)
+
 unfoldable pub putBlock : Block → List Bool → List Bool
-putBlock b r =
-    putField 4 (b .kind)
-    (putField 4 (b .m) (putValue (hasValue (b .kind)) (b .value) (putMany (putField 7) (take (portCount (b .kind) (b .m)) (b .ports)) r)))
+putBlock b r = putField 4 (b .kind) (putField 4 (b .m) (putValued b r))
 
 unfoldable pub putNet : Net → List Bool → List Bool
 putNet n r =
