@@ -6,3 +6,4 @@ pub mod Loads
 pub mod Storing
 pub mod Writes
 pub mod Packs
+pub mod Fields
