@@ -5,3 +5,7 @@ pub mod Loops
 pub mod Verdict
 -- What stepping rests on.
 pub mod Promises
+-- Working definitions of private contracts.
+pub mod Rows
+pub mod Ends
+pub mod Order

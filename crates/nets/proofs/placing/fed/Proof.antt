@@ -1,0 +1,14 @@
+-- `nets::placing::fed` meets its contract: one value for each way.
+-- Assumes nothing.
+use borrow.Author.Needs.{needs}
+use Rattle.nets.proofs.placing.fed.Statement.{statement}
+use Rattle.nets.proofs.placing.fed.Tie as tie
+
+returns : tie.Need-returns
+returns c = search needs
+
+returns-2 : tie.Need-returns-2
+returns-2 c = simp (c .if1 .left)
+
+pub fed-spec : {M : Type 1} → statement M
+fed-spec = tie.close (tie.spec returns returns-2)
