@@ -3,9 +3,9 @@
 -- Assumes nothing.
 use Prim.Native.Nat.{ℕ, zero, suc, _+_, _-_, _^_, _<_, _≤_}
 use native.Mathlib.Omega.{arith}
-use mathlib.Core.Path.{_≡_, refl, ap, ap₂, sym, _∙_}
+use mathlib.Core.Path.{_≡_, refl, ap, sym, _∙_}
 use mathlib.Core.List.{List, [], _∷_, _++_}
-use mathlib.Core.Bool.{Bool, true, false, cond, _&&_, _||_}
+use mathlib.Core.Bool.{Bool, true, false, _&&_, _||_}
 use lib.ListN.{length, getD, take, drop, replicate, length-append, length-take, length-replicate, take-append-drop}
 use lib.Seq.{drop-append-seam}
 use lib.Dec.{leb, ltb, eqb, leb·suc-suc}
@@ -14,11 +14,12 @@ use Rattle.blocks.specs.Folds.{allBelow}
 use Rattle.blocks.specs.Ports.{mOk, hasValue}
 use Rattle.blocks.proofs.Folds.{all-at, all-in, and-both}
 use Rattle.nets.specs.Block.{noBlock, ins, outs, portOk, portsOk, valueOk, blockOk}
-use Rattle.nets.specs.Net.{blockAt, blockZero, entryOk, entryAt, sizesOk, fieldsOk}
+use Rattle.nets.specs.Net.{blockZero, entryOk, entryAt, sizesOk, fieldsOk}
 use Rattle.nets.specs.declared.Block.{Block}
 use Rattle.nets.specs.declared.Net.{Net}
 use Rattle.forms.specs.Form.{portCount, padded, zeroBlock, loaded, parse}
 use Rattle.forms.specs.Sizes.{All, SizedBlock, Sized}
+use Rattle.forms.proofs.Lists.{all-so, all-with, all-take, all-drop, all-same, same-all}
 use Rattle.forms.proofs.Codecs.{OkValue, OkBlock, OkNet, both, portCount-le, loaded-ok}
 
 -- ## A test that is told whether an element stands among the first n
@@ -55,32 +56,6 @@ module _ {A : Type 0} (ok : Bool → A → Bool) (d : A) where
   joined (suc n) (a ∷ l) p q (suc i) h = at-next n i (getD l i d) ∙ joined n l (p .1) q i (omega arith)
 
 -- ## Lists
-
-all-so : {A : Type 0} {P Q : A → Type 0} (l : List A) → ((a : A) → P a → Q a) → All P l → All Q l
-all-so [] f p = tt
-all-so (a ∷ l) f p = (f a (p .0), all-so l f (p .1))
-
-all-with : {A : Type 0} {P Q R : A → Type 0} (l : List A) → ((a : A) → P a → Q a → R a) → All P l → All Q l → All R l
-all-with [] f p q = tt
-all-with (a ∷ l) f p q = (f a (p .0) (q .0), all-with l f (p .1) (q .1))
-
-all-take : {A : Type 0} (P : A → Type 0) (n : ℕ) (l : List A) → All P l → All P (take n l)
-all-take P zero l p = tt
-all-take P (suc n) [] p = tt
-all-take P (suc n) (a ∷ l) p = (p .0, all-take P n l (p .1))
-
-all-drop : {A : Type 0} (P : A → Type 0) (n : ℕ) (l : List A) → All P l → All P (drop n l)
-all-drop P zero l p = p
-all-drop P (suc n) [] p = tt
-all-drop P (suc n) (a ∷ l) p = all-drop P n l (p .1)
-
-all-same : {A : Type 0} (z : A) (l : List A) → All (λ a. a ≡ z) l → l ≡ replicate (length l) z
-all-same z [] p = refl
-all-same z (a ∷ l) p = ap₂ _∷_ (p .0) (all-same z l (p .1))
-
-same-all : {A : Type 0} (z : A) (m : ℕ) → All (λ a. a ≡ z) (replicate m z)
-same-all z zero = tt
-same-all z (suc m) = (refl, same-all z m)
 
 -- a list of k elements that are z from n on is its first n, padded
 padding : {A : Type 0} (z : A) (k n : ℕ) (l : List A) → length l ≡ k → All (λ a. a ≡ z) (drop n l) → l ≡ padded z k (take n l)

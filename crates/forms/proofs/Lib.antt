@@ -1,4 +1,5 @@
 -- Laws of the stored form.
+pub mod Lists
 pub mod Codecs
 pub mod Places
 pub mod Many
@@ -7,3 +8,7 @@ pub mod Storing
 pub mod Writes
 pub mod Packs
 pub mod Fields
+pub mod Answers
+pub mod Verdicts
+-- The round trips.
+pub mod Theorems

@@ -1,11 +1,11 @@
 -- From bits to bytes: a buffer whose bits begin with a form's bits and padding begins with the form's bytes.
 -- Assumes nothing.
-use Prim.Native.Nat.{ℕ, zero, suc, _+_, _-_, _*_, _/_, _%_, _^_, _<_, _≤_}
+use Prim.Native.Nat.{ℕ, zero, suc, _+_, _-_, _*_, _/_, _^_, _<_, _≤_}
 use native.Mathlib.Omega.{arith}
 use native.Mathlib.Nat.{zero-div, zero-mod, zero-add}
 use mathlib.Core.Path.{_≡_, refl, ap, ap₂, sym, _∙_}
-use mathlib.Core.List.{List, [], _∷_, _++_, append-assoc, append-nil}
-use mathlib.Core.Bool.{Bool, true, false}
+use mathlib.Core.List.{List, [], _∷_, _++_, append-assoc}
+use mathlib.Core.Bool.{Bool, false}
 use lib.ListN.{length, getD, take, drop, replicate, length-append, length-replicate, length-take}
 use borrow.Author.Tests.{le-leb, lt-leb}
 use Rattle.reader.specs.Bits.{bits, bitsOf}
@@ -16,6 +16,7 @@ use Rattle.forms.specs.Form.{putField, putMany, putBlock, putNet, encode
 use Rattle.forms.specs.Sizes.{AreBytes}
 use Rattle.forms.specs.Over.{over, writtenOf, bufferOf}
 use Rattle.forms.specs.declared.Written.the-variants.{Bytes, Short}
+use Rattle.forms.proofs.Lists.{all-append, all-drop}
 use Rattle.forms.proofs.Codecs.{bitsOf-bytesOf, bytesOf-bitsOf}
 use Rattle.forms.proofs.Loads.{length-block}
 use Rattle.forms.proofs.Writes.{over-three, upTo, encode-bits}
@@ -34,15 +35,6 @@ bitsOf-drop (suc k) [] h = absurd (omega arith)
 bitsOf-drop (suc k) (b ∷ f) h =
     let e : 8 * suc k ≡ suc (suc (suc (suc (suc (suc (suc (suc (8 * k)))))))) = omega arith in
     rw e (bitsOf-drop k f (omega arith))
-
-all-append : (f g : List ℕ) → AreBytes f → AreBytes g → AreBytes (f ++ g)
-all-append [] g a b = b
-all-append (x ∷ f) g a b = (a .0, all-append f g (a .1) b)
-
-all-drop : (k : ℕ) (f : List ℕ) → AreBytes f → AreBytes (drop k f)
-all-drop zero f a = a
-all-drop (suc k) [] a = tt
-all-drop (suc k) (x ∷ f) a = all-drop k f (a .1)
 
 all-bytes : (k : ℕ) (l : List Bool) → AreBytes (bytesOf k l)
 unfolding bytesOf
@@ -107,7 +99,7 @@ module _ (n : Net) (f g : List ℕ) (a : AreBytes f) (b : AreBytes g) (room : le
       let theirs : bitsOf (p ++ drop (length p) f) ≡ (l ++ bits z 0) ++ drop (length (l ++ bits z 0)) (bitsOf f) =
       bitsOf-append p (drop (length p) f)
       ∙ ap₂ _++_ whole (bitsOf-drop (length p) f room ∙ ap (λ (m : ℕ). drop m (bitsOf f)) (sym size)) in
-      same-bytes g (p ++ drop (length p) f) b (all-append p (drop (length p) f) (all-pack l) (all-drop (length p) f a)) (mine ∙ sym theirs)
+      same-bytes g (p ++ drop (length p) f) b (all-append (λ x. x < 256) p (drop (length p) f) (all-pack l) (all-drop (λ x. x < 256) (length p) f a)) (mine ∙ sym theirs)
 
 -- a net's form is small
 many-most : (xs : List Block) → length (putMany putBlock xs []) ≤ 110 * length xs

@@ -1,15 +1,14 @@
 -- Writing bits over a buffer's bits, part after part: a net's form is its header and its blocks, one behind the other.
 -- Assumes nothing.
-use Prim.Native.Nat.{ℕ, zero, suc, _+_, _-_, _*_, _^_, _<_, _≤_}
+use Prim.Native.Nat.{ℕ, _+_, _*_, _<_, _≤_}
 use native.Mathlib.Omega.{arith}
 use native.Mathlib.Numerals.{add-one}
-use mathlib.Core.Path.{_≡_, refl, ap, ap₂, sym, _∙_}
+use mathlib.Core.Path.{_≡_, refl, ap, sym, _∙_}
 use mathlib.Core.List.{List, [], _∷_, _++_, append-assoc, append-nil}
 use mathlib.Core.Bool.{Bool, true, false}
 use lib.ListN.{length, getD, take, drop, length-append, length-drop, length-take, take-append-drop}
-use lib.Seq.{paste-zero, take-at, drop-append-add, length-take-le, drop-drop, take-suc, take-take, getD-take}
+use lib.Seq.{paste-zero, take-at, drop-append-add, length-take-le, drop-drop, take-suc, take-take}
 use Rattle.reader.specs.Bits.{bits}
-use Rattle.reader.proofs.Bits.{length-bits}
 use Rattle.blocks.specs.Ports.{hasValue}
 use Rattle.nets.specs.Block.{noBlock}
 use Rattle.nets.specs.declared.Block.{Block}

@@ -1,4 +1,6 @@
 // The stored form of a net: loading and writing it.
+ghost use Rattle.forms.specs.Calls.{Loaded, Wrote};
+
 mod put;
 mod read;
 
@@ -40,4 +42,35 @@ struct PortsRead {
 struct BlockRead {
     place: Place,
     block: Block,
+}
+
+// The net that a form holds, or its refusal: 1 to 7 by its bits, then 8 to 11 by the check of the net.
+pub fn load(form: &[u8]) -> Loading
+    ensures { λ r. ⌜ Loaded (now (form .entry)) r ⌝ }
+{
+    let found = read::read_net(form);
+    if found.refusal != 0 {
+        return found;
+    }
+    let net = found.net;
+    let plan = nets::plan_of(net);
+    let verdict = plan.verdict;
+    let refusal = nets::number(verdict);
+    if refusal != 0 {
+        return read::refused_load(refusal);
+    }
+    found
+}
+
+// Writes a net's form at the buffer's beginning and changes no later byte. Refused 12 or 17, it changes none.
+pub fn write(net: Net, buf: &mut [u8]) -> Written
+    ensures { λ r. ⌜ Wrote net (now (buf .entry)) r (now (buf .exit)) ⌝ }
+{
+    let plan = nets::plan_of(net);
+    let verdict = plan.verdict;
+    let refusal = nets::number(verdict);
+    if refusal != 0 {
+        return Written::Unfit;
+    }
+    put::put_net(net, buf)
 }

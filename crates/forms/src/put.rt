@@ -6,11 +6,11 @@ ghost use lib.ListN.{length, set, take};
 ghost use Rattle.reader.specs.Bits.{odd, bits, bitsOf};
 ghost use Rattle.forms.specs.Form.{putField, putMany, putValued, putBlock, encode, formOf};
 ghost use Rattle.forms.specs.Over.{withBit, over, blockBits, writtenOf, bufferOf};
+use crate::Written;
+use crate::read::port_count;
 use blocks::kinds;
 use nets::Block;
 use nets::Net;
-use crate::Written;
-use crate::read::port_count;
 
 // The byte b with its bit k set to new.
 fn with_bit(b: u8, k: usize, new: u32) -> u8

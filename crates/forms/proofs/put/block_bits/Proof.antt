@@ -1,12 +1,9 @@
 -- `forms::put::block_bits` meets its contract: 8 bits for kind and m, 32 for a value, and 7 for each port.
 -- Assumes nothing.
-use Prim.Native.Nat.{_+_, _*_, _≤_}
 use native.Mathlib.Omega.{arith}
 use mathlib.Core.Path.{_≡_, sym, _∙_}
 use lib.ListN.{length}
 use borrow.Author.Needs.{needs}
-use Rattle.forms.specs.Form.{portCount}
-use Rattle.forms.specs.Over.{blockBits}
 use Rattle.forms.proofs.Codecs.{portCount-le}
 use Rattle.forms.proofs.Writes.{bits-valued, bits-plain, bits-block}
 use Rattle.forms.proofs.put.block_bits.Statement.{statement}

@@ -1,5 +1,4 @@
 use borrow.Author.Needs.{needs}
-use native.Mathlib.Omega.{arith}
 use Rattle.reader.specs.Bits.{odd}
 use Rattle.forms.proofs.Storing.{bitsOf-put}
 use Rattle.forms.proofs.put.put_bit.Statement.{statement}

@@ -1,13 +1,12 @@
 use borrow.Author.Needs.{needs}
 use native.Mathlib.Omega.{arith}
-use Prim.Native.Nat.{ℕ, _+_, _-_, _*_, _/_, _%_, _^_, _<_, _≤_}
-use mathlib.Core.Path.{_≡_, refl, sym, _∙_, ap}
-use mathlib.Core.Bool.{Bool, true, false}
-use lib.ListN.{length, set, getD, take, drop}
+use Prim.Native.Nat.{_+_, _-_, _/_, _%_, _^_, _<_, _≤_}
+use mathlib.Core.Path.{_≡_, refl, _∙_, ap}
+use mathlib.Core.Bool.{Bool}
+use lib.ListN.{length, set}
 use lib.Seq.{paste, paste-zero}
 use mathlib.Core.List.{List}
 use Rattle.reader.specs.Bits.{odd, bits, bitsOf}
-use Rattle.forms.specs.Over.{over}
 use Rattle.reader.proofs.Bits.{length-bits, length-bitsOf}
 use Rattle.forms.proofs.Storing.{put-more, put-all}
 use Rattle.forms.proofs.put.put_field.Statement.{statement}

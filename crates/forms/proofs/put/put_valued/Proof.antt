@@ -1,16 +1,15 @@
 -- `forms::put::put_valued` meets its contract: the value's bits exactly where the kind has one, and the ports' bits behind them.
 -- Assumes nothing.
-use Prim.Native.Nat.{ℕ, _+_, _*_, _≤_}
+use Prim.Native.Nat.{ℕ, _+_, _≤_}
 use native.Mathlib.Omega.{arith}
 use mathlib.Core.Path.{_≡_, sym, _∙_, ap}
 use mathlib.Core.List.{List, []}
-use mathlib.Core.Bool.{Bool, true, false}
+use mathlib.Core.Bool.{Bool}
 use lib.ListN.{length, take}
 use borrow.Author.Needs.{needs}
 use Rattle.reader.specs.Bits.{bitsOf}
 use Rattle.reader.proofs.Bits.{length-bitsOf}
-use Rattle.blocks.specs.Ports.{hasValue}
-use Rattle.forms.specs.Form.{portCount, putField, putMany, putValued}
+use Rattle.forms.specs.Form.{portCount, putField, putMany}
 use Rattle.forms.specs.Over.{over}
 use Rattle.forms.proofs.Codecs.{portCount-le}
 use Rattle.forms.proofs.Writes.{bits-valued, bits-plain, over-plain, over-valued}
