@@ -68,8 +68,8 @@ pub fn write(net: Net, buf: &mut [u8]) -> Written
 {
     let plan = nets::plan_of(net);
     let verdict = plan.verdict;
-    let refusal = nets::number(verdict);
-    if refusal != 0 {
+    let number = nets::number(verdict);
+    if number != 0 {
         return Written::Unfit;
     }
     put::put_net(net, buf)

@@ -1,3 +1,5 @@
+-- `forms::put::put_bit` meets its contract: storing a bit in its byte stores it in the buffer's bits.
+-- Assumes nothing.
 use borrow.Author.Needs.{needs}
 use Rattle.reader.specs.Bits.{odd}
 use Rattle.forms.proofs.Storing.{bitsOf-put}

@@ -1,11 +1,14 @@
-use borrow.Author.Needs.{needs}
-use native.Mathlib.Omega.{arith}
+-- `forms::put::put_field` meets its contract. The loop's invariant: the first k bits of the field are written over the buffer's bits, and the buffer's length
+-- is kept. The measure is what is left of the width.
+-- Assumes nothing.
 use Prim.Native.Nat.{_+_, _-_, _/_, _%_, _^_, _<_, _≤_}
+use native.Mathlib.Omega.{arith}
 use mathlib.Core.Path.{_≡_, refl, _∙_, ap}
 use mathlib.Core.Bool.{Bool}
+use mathlib.Core.List.{List}
 use lib.ListN.{length, set}
 use lib.Seq.{paste, paste-zero}
-use mathlib.Core.List.{List}
+use borrow.Author.Needs.{needs}
 use Rattle.reader.specs.Bits.{odd, bits, bitsOf}
 use Rattle.reader.proofs.Bits.{length-bits, length-bitsOf}
 use Rattle.forms.proofs.Storing.{put-more, put-all}

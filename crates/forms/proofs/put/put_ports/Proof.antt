@@ -1,14 +1,17 @@
-use borrow.Author.Needs.{needs}
-use native.Mathlib.Omega.{arith}
+-- `forms::put::put_ports` meets its contract. The loop's invariant: the bits of the first i ports are written over the buffer's bits, and the buffer's length
+-- is kept. The measure is what is left of the count.
+-- Assumes nothing.
 use Prim.Native.Nat.{ℕ, _+_, _-_, _*_, _≤_}
+use native.Mathlib.Omega.{arith}
 use mathlib.Core.Path.{_≡_, refl, _∙_, ap}
 use mathlib.Core.List.{List, []}
 use mathlib.Core.Bool.{Bool}
 use lib.ListN.{length, getD, take}
+use borrow.Author.Needs.{needs}
 use Rattle.reader.specs.Bits.{bits, bitsOf}
+use Rattle.reader.proofs.Bits.{length-bitsOf}
 use Rattle.forms.specs.Over.{over}
 use Rattle.forms.specs.Form.{putField, putMany}
-use Rattle.reader.proofs.Bits.{length-bitsOf}
 use Rattle.forms.proofs.Writes.{over-nil, ports-more}
 use Rattle.forms.proofs.put.put_ports.Statement.{statement}
 use Rattle.forms.proofs.put.put_ports.Tie as tie

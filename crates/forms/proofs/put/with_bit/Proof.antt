@@ -1,6 +1,8 @@
-use borrow.Author.Needs.{needs}
+-- `forms::put::with_bit` meets its contract: the bit is kept, or its weight is added or taken away.
+-- Assumes nothing.
 use native.Mathlib.Omega.{arith}
 use mathlib.Core.Path.{sym, _∙_}
+use borrow.Author.Needs.{needs}
 use Rattle.reader.specs.Bits.{odd}
 use Rattle.forms.proofs.Storing.{weight-le, withBit-lt, bit-kept, bit-raised, bit-cleared}
 use Rattle.forms.proofs.put.with_bit.Statement.{statement}
