@@ -9,7 +9,6 @@ pub mod Writes
 pub mod Packs
 pub mod Fields
 pub mod Answers
-pub mod Verdicts
 -- The round trips, and forms of document 01.
 pub mod Theorems
 pub mod Examples

@@ -16,6 +16,7 @@ use Rattle.nets.specs.Verdict.{VerdictIs, numberOf}
 use Rattle.nets.specs.declared.Net.{Net}
 use Rattle.nets.specs.declared.Verdict.{Verdict}
 use Rattle.nets.specs.declared.Verdict.the-variants.{Accepted, Field, Connection, Ends, DataLoop, ControlLoop}
+use Rattle.nets.proofs.Verdicts.{verdict-unique}
 use Rattle.forms.specs.Form.{zeroNet, Outcome, loaded, denied, parse, formOf}
 use Rattle.forms.specs.Calls.{answer, LoadedFrom, Loaded, refusalOf, countOf, Wrote}
 use Rattle.forms.specs.Sizes.{AreBytes, Sized}
@@ -25,7 +26,6 @@ use Rattle.forms.specs.declared.Written.the-variants.{Bytes, Short, Unfi
 use Rattle.forms.proofs.Codecs.{load-written, write-loaded}
 use Rattle.forms.proofs.Fields.{fields-ok, loaded-fields}
 use Rattle.forms.proofs.Answers.{denied-numbered, only-accepted}
-use Rattle.forms.proofs.Verdicts.{verdict-unique}
 
 -- ## One answer
 
