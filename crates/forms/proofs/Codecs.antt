@@ -126,9 +126,6 @@ pub field-front : (w v : ℕ) (r s : List Bool) → putField w v r ++ s ≡ putF
 unfolding putField
 field-front w v r s = append-assoc (bits w v) r s
 
-pub field-codec : (w : ℕ) → Codec (λ v. v < 2 ^ w) (putField w) (takeField w)
-field-codec w = record { there = field-there w; back = field-back w; front = field-front w }
-
 -- a field that meets a test
 tested-there : (w : ℕ) (ok : ℕ → Bool) (e v : ℕ) (r : List Bool) → v < 2 ^ w → ok v ≡ true → takeTested w ok e (putField w v r) ≡ got v r
 unfolding takeTested

@@ -6,16 +6,16 @@ use native.Mathlib.Numerals.{add-one}
 use mathlib.Core.Path.{_≡_, refl, ap, sym, _∙_}
 use mathlib.Core.List.{List, [], _∷_, _++_, append-assoc, append-nil}
 use mathlib.Core.Bool.{Bool, true, false}
-use lib.ListN.{length, getD, take, drop, length-append, length-drop, length-take, take-append-drop}
+use lib.ListN.{length, getD, take, drop, length-append, take-append-drop}
 use lib.Seq.{paste-zero, take-at, drop-append-add, length-take-le, drop-drop, take-suc, take-take}
 use Rattle.reader.specs.Bits.{bits}
 use Rattle.blocks.specs.Ports.{hasValue}
 use Rattle.nets.specs.Block.{noBlock}
 use Rattle.nets.specs.declared.Block.{Block}
 use Rattle.nets.specs.declared.Net.{Net}
-use Rattle.forms.specs.Form.{portCount, putField, putValue, putMany, putValued, putBlock, putNet, encode}
+use Rattle.forms.specs.Form.{Taken, portCount, putField, putValue, putMany, putValued, putBlock, putNet, encode}
 use Rattle.forms.specs.Over.{over, blockBits}
-use Rattle.forms.proofs.Codecs.{portCount-le, many-front, port-codec, block-codec}
+use Rattle.forms.proofs.Codecs.{Codec, portCount-le, many-front, port-codec, block-codec}
 use Rattle.forms.proofs.Loads.{length-field, length-ports-bits, length-block}
 
 pub over-nil : (l : List Bool) (at : ℕ) → l ≡ over l at []
@@ -35,32 +35,31 @@ over-over l at n s t h e =
     ∙ ap (λ (k : ℕ). drop k l) g in
     rw (take-at (take at l ++ s) (drop (at + length s) l) n p, q) (ap (λ (x : List Bool). x ++ drop (at + length (s ++ t)) l) (append-assoc (take at l) s t))
 
-pub length-over : (l : List Bool) (at : ℕ) (s : List Bool) → at + length s ≤ length l → length (over l at s) ≡ length l
-unfolding over
-length-over l at s h = simp (length-append, length-drop, length-take) (omega arith)
+-- many values, one behind the other
+module _ {A : Type 0} {ok : A → Type 0} {put : A → List Bool → List Bool} {taken : List Bool → Taken A} (one : Codec ok put taken) where
+  many-append : (xs ys : List A) (r : List Bool) → putMany put (xs ++ ys) r ≡ putMany put xs (putMany put ys r)
+  unfolding putMany
+  many-append [] ys r = refl
+  many-append (x ∷ xs) ys r = ap (put x) (many-append xs ys r)
 
--- a writer of bits is its bits in front of what follows
-pub field-alone : (w v : ℕ) (r : List Bool) → putField w v r ≡ bits w v ++ r
-unfolding putField
-field-alone w v r = refl
+  many-split : (xs ys : List A) → putMany put (xs ++ ys) [] ≡ putMany put xs [] ++ putMany put ys []
+  many-split xs ys = many-append xs ys [] ∙ sym (many-front one xs [] (putMany put ys []))
 
-many-snoc : (xs : List ℕ) (p : ℕ) (r : List Bool) → putMany (putField 7) (xs ++ (p ∷ [])) r ≡ putMany (putField 7) xs (bits 7 p ++ r)
-unfolding putMany putField
-many-snoc [] p r = refl
-many-snoc (x ∷ xs) p r = ap (putField 7 x) (many-snoc xs p r)
+  -- one more of them
+  many-more : (xs : List A) (i : ℕ) (d : A) → i < length xs → putMany put (take (i + 1) xs) [] ≡ putMany put (take i xs) [] ++ put (getD xs i d) []
+  unfolding putMany
+  many-more xs i d h =
+      ap (λ (ys : List A). putMany put ys []) (ap (λ (k : ℕ). take k xs) (add-one i) ∙ take-suc xs i d h) ∙ many-split (take i xs) (getD xs i d ∷ [])
 
 -- one port more
 pub ports-more : (l : List Bool) (start : ℕ) (ps : List ℕ) (i : ℕ) → i < length ps → start + 7 * i + 7 ≤ length l
     → over (over l start (putMany (putField 7) (take i ps) [])) (start + 7 * i) (bits 7 (getD ps i 0)) ≡ over l start (putMany (putField 7) (take (i + 1) ps) [])
+unfolding putField
 ports-more l start ps i h s =
     let x = putMany (putField 7) (take i ps) [] in
     let n : length x ≡ 7 * i = length-ports-bits (take i ps) [] ∙ rw (length-take-le i ps (omega arith)) (omega arith) in
-    let more : x ++ bits 7 (getD ps i 0) ≡ putMany (putField 7) (take (i + 1) ps) [] =
-    many-front (port-codec 0 (omega arith)) (take i ps) [] (bits 7 (getD ps i 0))
-    ∙ ap (putMany (putField 7) (take i ps)) (sym (append-nil (bits 7 (getD ps i 0))))
-    ∙ sym (many-snoc (take i ps) (getD ps i 0) [])
-    ∙ ap (λ (qs : List ℕ). putMany (putField 7) qs []) (sym (ap (λ (k : ℕ). take k ps) (add-one i) ∙ take-suc ps i 0 h)) in
-    over-over l start (start + 7 * i) x (bits 7 (getD ps i 0)) (omega arith) (omega arith) ∙ ap (over l start) more
+    over-over l start (start + 7 * i) x (bits 7 (getD ps i 0)) (omega arith) (omega arith)
+    ∙ ap (over l start) (ap (λ (b : List Bool). x ++ b) (sym (append-nil (bits 7 (getD ps i 0)))) ∙ sym (many-more (port-codec 0 (omega arith)) ps i 0 h))
 
 -- a block's bits
 module _ (b : Block) (h : length (b .ports) ≡ 10) where
@@ -115,31 +114,21 @@ module _ (l : List Bool) (at : ℕ) (b : Block) where
   over-block h = over-three l at (at + 4) (at + 8) (bits 4 (b .kind)) (bits 4 (b .m)) (putValued b []) refl (omega arith) h
 
 -- the blocks' bits, up to a block and with it
-many-append : (xs ys : List Block) (r : List Bool) → putMany putBlock (xs ++ ys) r ≡ putMany putBlock xs (putMany putBlock ys r)
-unfolding putMany
-many-append [] ys r = refl
-many-append (x ∷ xs) ys r = ap (putBlock x) (many-append xs ys r)
-
-many-split : (xs ys : List Block) → putMany putBlock (xs ++ ys) [] ≡ putMany putBlock xs [] ++ putMany putBlock ys []
-many-split xs ys = many-append xs ys [] ∙ sym (many-front (block-codec 0 (omega arith)) xs [] (putMany putBlock ys []))
-
 abbrev pub upTo : List Block → ℕ → List Bool
 upTo bs i = putMany putBlock (take i bs) []
 
-pub one-more : (bs : List Block) (i : ℕ) (d : Block) → i < length bs → upTo bs (i + 1) ≡ upTo bs i ++ putBlock (getD bs i d) []
-unfolding putMany
-one-more bs i d h =
-    ap (λ (xs : List Block). putMany putBlock xs []) (ap (λ (k : ℕ). take k bs) (add-one i) ∙ take-suc bs i d h) ∙ many-split (take i bs) (getD bs i d ∷ [])
+one-more : (bs : List Block) (i : ℕ) (d : Block) → i < length bs → upTo bs (i + 1) ≡ upTo bs i ++ putBlock (getD bs i d) []
+one-more = many-more (block-codec 0 (omega arith))
 
-pub bits-more : (bs : List Block) (i : ℕ) (d : Block) → i < length bs → length (upTo bs (i + 1)) ≡ length (upTo bs i) + blockBits (getD bs i d)
+bits-more : (bs : List Block) (i : ℕ) (d : Block) → i < length bs → length (upTo bs (i + 1)) ≡ length (upTo bs i) + blockBits (getD bs i d)
 unfolding blockBits
 bits-more bs i d h = ap length (one-more bs i d h) ∙ length-append (upTo bs i) (putBlock (getD bs i d) [])
 
-pub bits-mono : (bs : List Block) (i n : ℕ) → i ≤ n → length (upTo bs i) ≤ length (upTo bs n)
+bits-mono : (bs : List Block) (i n : ℕ) → i ≤ n → length (upTo bs i) ≤ length (upTo bs n)
 bits-mono bs i n h =
     let e : take i bs ++ drop i (take n bs) ≡ take n bs = rw (← take-take i n bs h) (take-append-drop i (take n bs)) in
     let f : length (upTo bs n) ≡ length (upTo bs i) + length (putMany putBlock (drop i (take n bs)) []) =
-    ap (λ (xs : List Block). length (putMany putBlock xs [])) (sym e) ∙ ap length (many-split (take i bs) (drop i (take n bs)))
+    ap (λ (xs : List Block). length (putMany putBlock xs [])) (sym e) ∙ ap length (many-split (block-codec 0 (omega arith)) (take i bs) (drop i (take n bs)))
     ∙ length-append (upTo bs i) (putMany putBlock (drop i (take n bs)) []) in
     omega arith
 
