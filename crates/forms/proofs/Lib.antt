@@ -1,0 +1,14 @@
+-- Laws of the stored form.
+pub mod Lists
+pub mod Codecs
+pub mod Places
+pub mod Many
+pub mod Loads
+pub mod Storing
+pub mod Writes
+pub mod Packs
+pub mod Fields
+pub mod Answers
+-- The round trips, and forms of document 01.
+pub mod Theorems
+pub mod Examples
