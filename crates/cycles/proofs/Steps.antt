@@ -7,7 +7,8 @@ use mathlib.Core.List.{List}
 use native.Mathlib.Omega.{arith}
 use borrow.Author.Tests.{eqb-true, eqb-false, eq-eqb, ne-eqb, ltb-false, lt-ltb}
 use lib.Dec.{eqb, leb, ltb}
-use Rattle.blocks.specs.Folds.{allBelow}
+use lib.ListN.{getD}
+use Rattle.blocks.specs.Folds.{one, allBelow}
 use Rattle.blocks.specs.Kinds.{Kind}
 use Rattle.blocks.specs.Ports.{nOut}
 use Rattle.blocks.specs.Signals.{validAt}
@@ -26,7 +27,7 @@ use Rattle.nets.specs.declared.Verdict.the-variants.{Accepted}
 use Rattle.nets.proofs.Nets.{size-high, m-ok}
 use Rattle.cycles.specs.Streams.{streamOf, endsFit, maskOf}
 use Rattle.cycles.specs.Wires.{kindAt, viewOf}
-use Rattle.cycles.specs.Cycle.{Signals, signalsOf, nextAt}
+use Rattle.cycles.specs.Cycle.{Signals, signalsOf, nextAt, moves}
 use Rattle.cycles.specs.State.{regsOf, plainKind, entryShape, shapeOk}
 use Rattle.cycles.specs.Step.{refusalBy, refusedStep, steppedBy, stepBy}
 use Rattle.cycles.specs.Solved.{Solved}
@@ -34,7 +35,7 @@ use Rattle.cycles.specs.declared.State.{State}
 use Rattle.cycles.specs.declared.Stepped.{Stepped}
 use Rattle.cycles.proofs.Numbers.{shape-plain, copies}
 use Rattle.cycles.proofs.Solution.{solves}
-use Rattle.cycles.proofs.States.{shape-of}
+use Rattle.cycles.proofs.States.{getD-tab, shape-of}
 
 -- what is known where nothing is refused
 pub record Passes (ok : Bool) (net : Net) (s : State) (words ends : List ℕ) (odd : Bool) (n : ℕ) : Type 0 where
@@ -89,6 +90,14 @@ module _ (ok : Bool) (net : Net) (s : State) (words ends : List ℕ) where
 
     pub count-rises : refusal ≡ 0 → answer .state .count ≡ s .count + 1
     count-rises e = ap (λ (t : Stepped). t .state .count) (step-worked e)
+
+-- the delivery marks and the words of a cycle, channel by channel
+module _ (net : Net) (s : State) (words ends : List ℕ) (g : Signals) (c : ℕ) (h : c < 128) where
+  pub mark-at : getD (steppedBy net s words ends g .delivered) c 0 ≡ one (moves net g c)
+  mark-at = getD-tab 128 (λ c. one (moves net g c)) 0 c h
+
+  pub word-at : getD (steppedBy net s words ends g .words) c 0 ≡ cond (moves net g c) (g .shows c .word) 0
+  word-at = getD-tab 128 (λ c. cond (moves net g c) (g .shows c .word) 0) 0 c h
 
 -- the shape of a block's registers in a state that is in shape
 pub entry-shape : (net : Net) (s : State) → shapeOk net s ≡ true → (b : ℕ) → b < 64 → b < net .size → inShape (plainKind net b) (regsOf s b) ≡ true

@@ -21,6 +21,10 @@ pub cycles : (v : View) (mask : ℕ → Bool) (g : Signals) (r r′ : ℕ → Re
     → Cycles v mask g r r′
 cycles v mask g r r′ s next b h = record { showing = λ j q. s .showing b j h q; taking = λ i q. s .taking b i h q; going = next b h }
 
+-- the words, none or one, that a cycle delivers on channel c
+abbrev pub moved : Signals → ℕ → List ℕ
+moved g c = cond (g .shows c .valid && g .ready c) (g .shows c .word ∷ []) []
+
 -- the words delivered, with those of one more cycle
 abbrev pub deliver : Signals → (ℕ → List ℕ) → ℕ → List ℕ
-deliver g D c = D c ++ cond (g .shows c .valid && g .ready c) (g .shows c .word ∷ []) []
+deliver g D c = D c ++ moved g c

@@ -13,6 +13,7 @@ pub mod Simulation
 pub mod Orders
 pub mod Marks
 pub mod Fresh
+pub mod Following
 pub mod Buffers
 pub mod Guarantee
 pub mod Trial

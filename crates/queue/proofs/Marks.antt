@@ -1,5 +1,4 @@
--- What a step marks as delivered, and the registers that it returns: nothing of a refused step; of a cycle the word of each channel that is valid and ready,
--- and the next registers.
+-- What a step marks as delivered: nothing where it is refused, and of a cycle the word of each channel that is valid and ready.
 -- Assumes nothing.
 use Prim.Native.Nat.{ℕ, _<_}
 use mathlib.Core.Path.{_≡_, refl, ap, _∙_}
@@ -17,13 +16,9 @@ use Rattle.cycles.specs.Cycle.{Signals, moves}
 use Rattle.cycles.specs.Step.{refusalBy, refusedStep, steppedBy}
 use Rattle.cycles.specs.declared.State.{State}
 use Rattle.cycles.specs.declared.Stepped.{Stepped}
-use Rattle.cycles.proofs.States.{getD-tab}
-use Rattle.cycles.proofs.Steps.{step-refused}
+use Rattle.cycles.proofs.Steps.{step-refused, mark-at, word-at}
 use Rattle.queue.specs.Delivered.{Input, stepOn, marked, deliveredFrom}
-
--- the words of one cycle on a channel
-abbrev pub moved : Signals → ℕ → List ℕ
-moved g c = cond (g .shows c .valid && g .ready c) (g .shows c .word ∷ []) []
+use Rattle.queue.proofs.Circuit.{moved}
 
 by-test : (q : Bool) (w : ℕ) → cond (eqb (one q) 1) (cond q w 0 ∷ []) [] ≡ cond q (w ∷ []) []
 by-test true w = refl
@@ -37,8 +32,8 @@ pub marked-worked : (net : Net) → fieldsOk net ≡ true → (s : State) (words
 marked-worked net ok s words ends g c h =
     let wide : c < 128 = omega (arith, channels-high net ok) in
     let here : moves net g c ≡ (g .shows c .valid && g .ready c) = rw (lt-ltb c (net .channels) h) in
-    ap (λ (x : ℕ). cond (eqb x 1) (getD (steppedBy net s words ends g .words) c 0 ∷ []) []) (getD-tab 128 (λ c. one (moves net g c)) 0 c wide)
-    ∙ ap (λ (w : ℕ). cond (eqb (one (moves net g c)) 1) (w ∷ []) []) (getD-tab 128 (λ c. cond (moves net g c) (g .shows c .word) 0) 0 c wide)
+    ap (λ (x : ℕ). cond (eqb x 1) (getD (steppedBy net s words ends g .words) c 0 ∷ []) []) (mark-at net s words ends g c wide)
+    ∙ ap (λ (w : ℕ). cond (eqb (one (moves net g c)) 1) (w ∷ []) []) (word-at net s words ends g c wide)
     ∙ by-test (moves net g c) (g .shows c .word)
     ∙ ap (λ (q : Bool). cond q (g .shows c .word ∷ []) []) here
 

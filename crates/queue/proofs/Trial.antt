@@ -95,11 +95,16 @@ counterSteps =
 abbrev counterWords : ℕ → List ℕ
 counterWords = deliveredFrom true counter (freshBy true counter) counterSteps
 
--- the buffer's own law: 1, 2, 3 came in, and 0, 1, 2 went out and 3 is held
+-- to the sink go 0, 1, 2; into the data buffer came 1, 2, 3, and out of it went its first word 0, then 1, 2, and it holds 3
 pub counter-run : (counterWords 1 ≡ 0 ∷ 1 ∷ 2 ∷ []) × (counterWords 4 ≡ 1 ∷ 2 ∷ 3 ∷ []) × (counterWords 0 ≡ 0 ∷ 1 ∷ 2 ∷ [])
     × (holds (regsOf (lastFrom true counter (freshBy true counter) counterSteps) 4) ≡ 3 ∷ [])
 unfolding stepBy refusalBy shapeOk endsFit tab signals placeOf allBelow countBelow kindCount portsOf ins outs onSide bit bits operate
 counter-run = (refl, refl, refl, refl)
+
+-- two cycles, the sink ready
+pub counter-words : delivered true counter [] [] ((0, 1) ∷ (0, 1) ∷ []) 1 ≡ 0 ∷ 1 ∷ []
+unfolding stepBy refusalBy shapeOk endsFit tab signals placeOf allBelow countBelow kindCount portsOf ins outs onSide bit bits operate
+counter-words = refl
 
 -- the queue machine counts too
 pub counter-puts : put counter [] [] (0 ∷ 2 ∷ 3 ∷ 4 ∷ 0 ∷ 2 ∷ 3 ∷ 4 ∷ 0 ∷ []) 1 ≡ 0 ∷ 1 ∷ 2 ∷ []

@@ -1,5 +1,5 @@
--- What is claimed, each claim under its words. An accepted net is a net value that doesn't earn 12; no claim speaks of how a cycle is worked out. `guaranteed`,
--- `comparable`, `same-words` and `buffer-law` (proofs/Guarantee.antt) prove them.
+-- What is claimed of the queue machine and of steps, each claim under document 01's words. `guaranteed`, `comparable`, `same-words` and `buffer-law`
+-- (proofs/Guarantee.antt) prove them.
 -- Assumes nothing.
 use Prim.Native.Nat.{ℕ, _<_}
 use mathlib.Core.Path.{_≡_}
@@ -20,6 +20,7 @@ use Rattle.cycles.specs.Step.{freshBy}
 use Rattle.queue.specs.Machine.{put}
 use Rattle.queue.specs.Delivered.{Input, deliveredFrom, lastFrom, delivered}
 
+-- "An accepted net is a net value that doesn't earn 12"
 abbrev pub IsAccepted : Net → Type 0
 IsAccepted net = VerdictIs net Accepted
 
@@ -31,14 +32,15 @@ MergeFree net = (b : ℕ) → b < net .size → blockAt net b .kind ≢ 7
 abbrev pub Comparable : List ℕ → List ℕ → Type 0
 Comparable xs ys = IsPrefix xs ys ⊎ IsPrefix ys xs
 
--- Demand 3, "one claim about the whole list of steps, not one for each step": for every list of steps, refused ones included, there is ONE list of firings of the
--- net's blocks whose puts begin, on every channel, with the words delivered there.
+-- "Compared, channel by channel, is the list of all words ever put, those at the start included, with the list of words delivered .. one claim about the whole
+-- list of steps, not one for each step": for every list of steps from fresh, refused ones included, there is ONE list of firings of the net's blocks that puts, on
+-- every channel, a list beginning with the words delivered there.
 abbrev pub Guaranteed : Type 0
 Guaranteed =
     (ok : Bool) (net : Net) (words ends : List ℕ) → IsAccepted net → MergeFree net → (masks : List (ℕ × ℕ))
     → (F : List ℕ) × ((b : ℕ) → List·Memᴰ b F → b < net .size) × ((c : ℕ) → c < net .channels → IsPrefix (delivered ok net words ends masks c) (put net words ends F c))
 
--- Of any two lists of firings one puts, on each channel taken alone, a beginning of what the other puts.
+-- "Blocks fire one at a time in any order": of any two lists of firings one puts, on each channel taken alone, a beginning of what the other puts.
 abbrev pub FiringsComparable : Type 0
 FiringsComparable =
     (net : Net) (words ends : List ℕ) → IsAccepted net → (F G : List ℕ) (c : ℕ) → c < net .channels → Comparable (put net words ends F c) (put net words ends G c)
