@@ -1,10 +1,12 @@
 -- The bits of a number: a number made of bits has them, all bits below n make 2^n - 1, and bits that are set apart add up.
 -- Assumes nothing.
-use Prim.Native.Nat.{ℕ, zero, suc, _+_, _*_, _<_, _≤_, _/_, _%_, _^_}
+use Prim.Native.Nat.{ℕ, zero, suc, _+_, _-_, _*_, _<_, _≤_, _/_, _%_, _^_}
 use mathlib.Core.Path.{_≡_, refl, sym, ap, _∙_}
 use mathlib.Core.Bool.{Bool, true, false, _&&_, _||_}
 use native.Mathlib.Nat.{pow-suc, mul-comm, div-div-eq-div-mul}
+use native.Mathlib.Numerals.{add-one}
 use native.Mathlib.Omega.{arith}
+use lib.Pow.{pow-mono}
 use borrow.Author.Tests.{eq-eqb, ne-eqb, eqb-true, eqb-false}
 use lib.Dec.{eqb}
 use mir.Val.{boolByte}
@@ -106,3 +108,43 @@ gained-sum (suc n) marks d h apart =
     low (suc zero) q true a = let z : _≡_ {A = ℕ} 0 1 = cc in absurd (omega arith)
     low (suc zero) q false a = refl
     low (suc (suc x)) q t a = absurd (omega arith)
+
+-- the marks from bit i on, as a loop over the copies halves them
+pub bit-rest : (i x : ℕ) → bit 0 (x / 2 ^ i) ≡ bit i x
+unfolding bit
+bit-rest i x = let e : x / 2 ^ i / 2 ^ 0 ≡ x / 2 ^ i = omega arith in rw e
+
+pub rest-half : (i x r : ℕ) → r ≡ x / 2 ^ i → r / 2 ≡ x / 2 ^ (i + 1)
+rest-half i x r e = ap (λ (y : ℕ). y / 2) e ∙ div-div-eq-div-mul x (2 ^ i) 2 ∙ ap (λ (y : ℕ). x / y) (sym (pow-suc 2 i) ∙ ap (λ (n : ℕ). 2 ^ n) (sym (add-one i)))
+
+-- the bits from place i on, with one more in front
+pub bits-front : (f : ℕ → Bool) (i n : ℕ) → bits (λ k. f (i + k)) (suc n) ≡ one (f i) + bits (λ k. f (suc i + k)) n * 2
+unfolding bits
+bits-front f i n =
+    let e : i + 0 ≡ i = omega arith in
+    rw (e, bits-same (λ k. f (i + suc k)) (λ k. f (suc i + k)) n (λ k q. ap f (let z : i + suc k ≡ suc i + k = omega arith in z)))
+
+-- a set bit and a delivery exclude each other also where readiness is asked besides
+pub quiet : (b v y : Bool) → (b && v) ≡ false → (b && (v && y)) ≡ false
+quiet true v y e = rw e
+quiet false v y e = refl
+
+-- bits met from the last to the first
+pub bits-none-yet : (f : ℕ → Bool) (n : ℕ) → 0 ≡ bits (λ k. f (n + k)) (n - n)
+unfolding bits
+bits-none-yet f n = let e : n - n ≡ 0 = omega arith in rw e
+
+pub bits-one-more : (f : ℕ → Bool) (n i went : ℕ) (t : Bool) → 0 < i → i ≤ n → went ≡ bits (λ k. f (i + k)) (n - i) → t ≡ f (i - 1)
+    → one t + went * 2 ≡ bits (λ k. f (i - 1 + k)) (n - (i - 1))
+bits-one-more f n i went t p l e h =
+    let s : suc (i - 1) ≡ i = omega arith in
+    let d : n - (i - 1) ≡ suc (n - i) = omega arith in
+    rw (d, bits-front f (i - 1) (n - i), s, h, e)
+
+pub bits-all-met : (f : ℕ → Bool) (n i : ℕ) → i ≡ 0 → bits (λ k. f (i + k)) (n - i) ≡ bits f n
+bits-all-met f n i e =
+    let d : n - i ≡ n = omega arith in
+    rw d (bits-same (λ k. f (i + k)) f n (λ k q. ap f (let z : i + k ≡ k = omega arith in z)))
+
+pub bits-small : (f : ℕ → Bool) (n k : ℕ) → n ≤ k → bits f n < 2 ^ k
+bits-small f n k l = let p : 2 ^ n ≤ 2 ^ k = pow-mono l in omega (arith, bits-below f n)

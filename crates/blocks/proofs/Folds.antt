@@ -1,13 +1,14 @@
 -- The laws of `allBelow` and `countBelow`.
 -- Assumes nothing.
 use mathlib.Core.Path.{_≡_, refl, sym, _∙_, ap, subst}
-use mathlib.Core.Bool.{Bool, true, false, _&&_}
+use mathlib.Core.Bool.{Bool, true, false, cond, _&&_}
 use mathlib.Core.Logic.{_⊎_, inl, inr}
+use mathlib.Core.Option.{none, some}
 use Prim.Native.Nat.{ℕ, zero, suc, _+_, _≤_, _<_}
 use native.Mathlib.Decide.{ℕ-discrete, decLt}
 use native.Mathlib.Numerals.{add-one}
 use native.Mathlib.Omega.{arith}
-use Rattle.blocks.specs.Folds.{one, allBelow, countBelow}
+use Rattle.blocks.specs.Folds.{one, allBelow, countBelow, orElse, lowest}
 
 -- a Boolean is one of the two
 pub which : (b : Bool) → (b ≡ true) ⊎ (b ≡ false)
@@ -209,3 +210,19 @@ count-drop f g (suc n) i h t u same = go (ℕ-discrete i n) (count-drop f g n i)
     go (yes e) rec =
         omega (arith, count-same g f n (λ k q. same k (λ r. omega arith)), ap one (rw e at t), ap one (rw e at u))
     go (no e) rec = omega (arith, rec (omega arith) t u same, ap one (same n (λ r. e (sym r))))
+
+-- ## The lowest
+
+pub lowest-none : (f : ℕ → Bool) (n : ℕ) → ((k : ℕ) → k < n → f k ≡ false) → lowest f n ≡ none
+unfolding lowest
+lowest-none f zero h = refl
+lowest-none f (suc n) h = rw (lowest-none f n (λ k q. h k (omega arith)), h n (omega arith))
+
+pub lowest-found : (f : ℕ → Bool) (n i : ℕ) → i < n → f i ≡ true → ((k : ℕ) → k < i → f k ≡ false) → lowest f n ≡ some i
+unfolding lowest
+lowest-found f zero i h t low = absurd (omega arith)
+lowest-found f (suc n) i h t low = go (ℕ-discrete i n) (lowest-found f n i)
+  where
+    go : Dec (i ≡ n) → (i < n → f i ≡ true → ((k : ℕ) → k < i → f k ≡ false) → lowest f n ≡ some i) → orElse (lowest f n) (cond (f n) (some n) none) ≡ some i
+    go (yes e) rec = rw (lowest-none f n (λ k q. low k (omega arith)), rw e at t) (ap some (sym e))
+    go (no e) rec = rw (rec (omega arith) t low)

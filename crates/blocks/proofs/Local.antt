@@ -1,18 +1,18 @@
 -- What a block's equations depend on: its outputs on the inputs that they wait for, readiness at its inputs on its outputs, both on its own ports alone.
 -- Assumes nothing.
-use Prim.Native.Nat.{ℕ, zero, suc, _<_}
+use Prim.Native.Nat.{ℕ, zero, suc, _≤_, _<_}
 use mathlib.Core.Path.{_≡_, refl, ap}
 use mathlib.Core.Bool.{Bool, true, false, cond}
 use mathlib.Core.Option.{Option, none, some}
 use native.Mathlib.Omega.{arith}
-use borrow.Author.Tests.{ltb-true}
+use borrow.Author.Tests.{ltb-true, lt-ltb}
 use lib.Dec.{ltb}
 use Rattle.blocks.specs.Folds.{orElse, lowest}
 use Rattle.blocks.specs.Kinds.{Kind, source, sink, operator, constant, fork, mux, demux, merge, buffer, control, unused}
 use Rattle.blocks.specs.Ports.{nIn, nOut}
 use Rattle.blocks.specs.Words.{reach}
 use Rattle.blocks.specs.Signals.{validAt}
-use Rattle.blocks.specs.Equations.{went, doneAt, winner, won, outOf, readyOf, nextOf}
+use Rattle.blocks.specs.Equations.{went, doneAt, winner, won, recorded, outOf, readyOf, nextOf}
 use Rattle.blocks.specs.declared.Sig.{Sig}
 use Rattle.blocks.specs.declared.Reg.{Reg}
 use Rattle.blocks.proofs.Folds.{all-same}
@@ -75,6 +75,11 @@ winner-below m x (suc w) t e = go (ltb w m) refl e
     go : (b : Bool) → ltb w m ≡ b → cond b (some w) none ≡ some t → t < m
     go true l q = let z : w ≡ t = cc in omega (arith, ltb-true w m l)
     go false l q = none-some q
+
+-- a recorded number of 1 to m is its own winner
+pub held-is : (w m : ℕ) (x : ℕ → Sig) → (w ≡ 0 → ⊥) → w ≤ m → w ≡ recorded (winner m x w)
+held-is zero m x n h = absurd (n refl)
+held-is (suc t) m x n h = rw (lt-ltb t m h)
 
 won-same : (m : ℕ) (r : Reg) (x y : ℕ → Sig) → ((i : ℕ) → i < m → x i ≡ y i) → won m r x ≡ won m r y
 won-same m r x y h =

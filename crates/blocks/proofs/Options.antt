@@ -1,14 +1,15 @@
 -- What may be missing: laws of `none` and `some`, of `named`, `chosen` and `_then_`.
 -- Assumes nothing.
-use Prim.Native.Nat.{ℕ, _<_}
-use mathlib.Core.Path.{_≡_, refl}
-use mathlib.Core.Bool.{Bool, true, false, cond, false≢true}
+use Prim.Native.Nat.{ℕ, _-_, _≤_, _<_}
+use mathlib.Core.Path.{_≡_, refl, sym, ap}
+use mathlib.Core.Bool.{Bool, true, false, cond, _&&_, false≢true}
 use mathlib.Core.Option.{Option, none, some}
 use native.Mathlib.Omega.{arith}
-use borrow.Author.Tests.{ltb-true}
-use lib.Dec.{ltb}
-use Rattle.blocks.specs.Words.{reach}
-use Rattle.blocks.specs.Signals.{chosen, named}
+use borrow.Author.Tests.{ltb-true, ne-eqb}
+use lib.Dec.{ltb, eqb}
+use Rattle.blocks.specs.Words.{reach, portOr}
+use Rattle.blocks.specs.Signals.{nothing, chosen, named}
+use Rattle.blocks.specs.Equations.{recorded}
 use Rattle.blocks.specs.Firing.{_then_}
 use Rattle.blocks.specs.declared.Sig.{Sig}
 
@@ -56,3 +57,43 @@ reach-below m s t = go (ltb s m) refl
     go : (x : Bool) → ltb s m ≡ x → cond x (some s) none ≡ some t → t < m
     go true l e = let z : s ≡ t = cc in omega (arith, ltb-true s m l)
     go false l e = none-some e
+
+-- ## A named port as a number
+
+-- a port below m, tested by its number
+pub named-number : (m i : ℕ) (o : Option ℕ) → i < m → named o (eqb i) ≡ eqb i (portOr m o)
+named-number m i none h = sym (ne-eqb i m (λ e. omega arith))
+named-number m i (some t) h = refl
+
+module _ (m s : ℕ) where
+  by-number : (o : Option ℕ) → ((t : ℕ) → o ≡ some t → t < m) → portOr m o < m → o ≡ some (portOr m o)
+  by-number none below h = absurd (omega arith)
+  by-number (some t) below h = refl
+
+  pub port-there : portOr m (reach m s) < m → reach m s ≡ some (portOr m (reach m s))
+  port-there = by-number (reach m s) (reach-below m s)
+
+  no-number : (o : Option ℕ) → ((t : ℕ) → o ≡ some t → t < m) → m ≤ portOr m o → o ≡ none
+  no-number none below h = refl
+  no-number (some t) below h = absurd (omega (arith, below t refl))
+
+  pub port-missing : m ≤ portOr m (reach m s) → reach m s ≡ none
+  port-missing = no-number (reach m s) (reach-below m s)
+
+-- the winner as the register has it
+pub won-none : (o : Option ℕ) (x : ℕ → Sig) → recorded o ≡ 0 → chosen o x ≡ nothing
+won-none none x e = refl
+won-none (some t) x e = absurd (omega arith)
+
+pub won-some : (o : Option ℕ) (x : ℕ → Sig) (w : ℕ) → w ≡ recorded o → (w ≡ 0 → ⊥) → chosen o x ≡ x (w - 1)
+won-some none x w e n = absurd (n e)
+won-some (some t) x w e n = let z : t ≡ w - 1 = omega arith in ap x z
+
+pub won-high : (o : Option ℕ) (m w : ℕ) → ((t : ℕ) → o ≡ some t → t < m) → w ≡ recorded o → m < w → ⊥
+won-high none m w below e h = omega arith
+won-high (some t) m w below e h = omega (arith, below t refl)
+
+-- the winner's input by its number, where a winner whose input is valid is ready
+pub won-number : (o : Option ℕ) (x : ℕ → Sig) (d : Bool) (i w : ℕ) → w ≡ recorded o → ((chosen o x .valid && d) && eqb i (w - 1)) ≡ ((chosen o x .valid && d) && named o (eqb i))
+won-number none x d i w e = refl
+won-number (some t) x d i w e = let z : w - 1 ≡ t = omega arith in rw z

@@ -13,3 +13,4 @@ pub mod Places
 pub mod Placed
 pub mod Accepting
 pub mod Trials
+pub mod Decided

@@ -75,16 +75,17 @@ module _ (net : Net) (ok : fieldsOk net ≡ true) (joins : connected net ≡ tru
 
   -- ## The order
 
-  module _ (control : Bool) (none : FreeLoop net control → ⊥) where
+  module _ (control : Bool) where
+    -- a whole order, or a loop without such a buffer
     abbrev Found : Type 0
-    Found = (order : List ℕ) × InOrder net control order
+    Found = ((order : List ℕ) × InOrder net control order) ⊎ FreeLoop net control
 
     abbrev Placed : ℕ → List ℕ → List ℕ → Type 0
     Placed count blocks places = Progress control (rowsOf net) producers (net .size) count blocks places
 
     whole : (count : ℕ) (blocks places : List ℕ) → Placed count blocks places → count ≡ net .size → Found
     whole count blocks places p e =
-        (blocks, in-order net control (rowsOf net) producers (rows-of net) ok table blocks (record { places = places; progress = rw e at p }))
+        inl (blocks, in-order net control (rowsOf net) producers (rows-of net) ok table blocks (record { places = places; progress = rw e at p }))
 
     -- one more block is placed, or none can be
     place-next : (count : ℕ) (blocks places : List ℕ) → Placed count blocks places → ((blocks places : List ℕ) → Placed (count + 1) blocks places → Found)
@@ -95,10 +96,9 @@ module _ (net : Net) (ok : fieldsOk net ≡ true) (joins : connected net ≡ tru
         stop : Dec (count ≡ net .size) → Found
         stop (yes e) = whole count blocks places p e
         stop (no e) =
-            absurd
-            (none
+            inr
             (free-loop net control (rowsOf net) producers (rows-of net) ok table
-            (record { count = count; blocks = blocks; places = places; progress = p; left = omega (arith, p .total); stuck = stuck })))
+            (record { count = count; blocks = blocks; places = places; progress = p; left = omega (arith, p .total); stuck = stuck }))
     place-next count blocks places p rec (inr more) =
         let r : (i : ℕ) × (i < net .size) × (passedAt control (rowsOf net) producers places i ≡ false) =
         fails-at (passedAt control (rowsOf net) producers places) (net .size) more in
@@ -113,8 +113,12 @@ module _ (net : Net) (ok : fieldsOk net ≡ true) (joins : connected net ≡ tru
         place-next count blocks places p (λ bs ps q. place fuel (count + 1) bs ps (omega arith) q)
         (which (allBelow (passedAt control (rowsOf net) producers places) (net .size)))
 
-    found : Found
-    found = place (net .size + 1) 0 (replicate 64 0) (replicate 64 0) (omega arith) (progress-start control (rowsOf net) producers (net .size) (size-high net ok))
+    pub order-or-loop : Found
+    order-or-loop = place (net .size + 1) 0 (replicate 64 0) (replicate 64 0) (omega arith) (progress-start control (rowsOf net) producers (net .size) (size-high net ok))
 
 pub order-exists : (net : Net) → fieldsOk net ≡ true → connected net ≡ true → (control : Bool) → (FreeLoop net control → ⊥) → (order : List ℕ) × InOrder net control order
-order-exists net ok joins control none = found net ok joins control none
+order-exists net ok joins control none = go (order-or-loop net ok joins control)
+  where
+    go : ((order : List ℕ) × InOrder net control order) ⊎ FreeLoop net control → (order : List ℕ) × InOrder net control order
+    go (inl o) = o
+    go (inr l) = absurd (none l)

@@ -1,0 +1,3 @@
+-- Laws of ports in lent arrays.
+pub mod Puts
+pub mod ByKind
