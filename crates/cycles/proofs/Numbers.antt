@@ -19,7 +19,7 @@ use Rattle.blocks.proofs.Shapes.{Copies}
 use Rattle.nets.specs.Loops.{isBuffer}
 
 -- the numbers above 10
-abbrev beyond : ℕ → ℕ
+abbrev pub beyond : ℕ → ℕ
 beyond k = suc (suc (suc (suc (suc (suc (suc (suc (suc (suc (suc k))))))))))
 
 pub by-kind : (P : ℕ → Type 0) → P 0 → P 1 → P 2 → P 3 → P 4 → P 5 → P 6 → P 7 → P 8 → P 9 → P 10 → ((k : ℕ) → P (beyond k)) → (k : ℕ) → P k

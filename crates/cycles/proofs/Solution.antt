@@ -9,12 +9,15 @@ use native.Mathlib.Omega.{arith}
 use Rattle.blocks.specs.Ports.{nIn, nOut}
 use Rattle.blocks.specs.declared.Sig.{Sig}
 use Rattle.blocks.specs.declared.Reg.{Reg}
-use Rattle.blocks.proofs.Local.{waits, leans}
 use Rattle.blocks.proofs.Options.{test}
+use Rattle.blocks.proofs.Local.{waits, leans}
 use Rattle.nets.specs.Net.{blockAt, fieldsOk, connected}
 use Rattle.nets.specs.Loops.{isBuffer}
+use Rattle.nets.specs.Verdict.{VerdictIs}
 use Rattle.nets.specs.Promises.{InOrder}
 use Rattle.nets.specs.declared.Net.{Net}
+use Rattle.nets.specs.declared.Verdict.the-variants.{Accepted}
+use Rattle.nets.proofs.Placed.{order-exists}
 use Rattle.cycles.specs.Streams.{streamOf, maskOf}
 use Rattle.cycles.specs.Wires.{kindAt, viewOf, producer, consumer}
 use Rattle.cycles.specs.Cycle.{Signals, signalsOf}
@@ -23,9 +26,8 @@ use Rattle.cycles.proofs.Numbers.{waits-free, leans-free}
 use Rattle.cycles.proofs.Joins.{end, out-range, inp-range, output, input, wired}
 use Rattle.cycles.proofs.Stepping.{Ranked, cycle-solves, cycle-unique}
 
-module _ (net : Net) (words ends : List ℕ) (ok : fieldsOk net ≡ true) (joins : connected net ≡ true)
-    (order order′ : List ℕ) (data-order : InOrder net false order) (control-order : InOrder net true order′) where
-  -- the producer of an input of a block that waits stands before it in the data order
+-- the producer of an input of a block that waits stands before it in the data order
+module _ (net : Net) (words ends : List ℕ) (ok : fieldsOk net ≡ true) (joins : connected net ≡ true) (order : List ℕ) (data-order : InOrder net false order) where
   pub earlier : (b i : ℕ) → b < net .size → waits (kindAt net words ends b) ≡ true → i < nIn (kindAt net words ends b)
       → data-order .place (producer net (viewOf net words ends .inp b i)) < data-order .place b
   earlier b i hb wt hi =
@@ -34,6 +36,8 @@ module _ (net : Net) (words ends : List ℕ) (ok : fieldsOk net ≡ true) (joins
       (record { leaves = end net words ends ok joins true c (inp-range net words ends ok joins b i hb hi); enters = input net words ends ok joins b i hb hi })
       (waits-free (blockAt net b .m) (blockAt net b .value) (streamOf net words ends b) (blockAt net b .kind) wt)
 
+module _ (net : Net) (words ends : List ℕ) (ok : fieldsOk net ≡ true) (joins : connected net ≡ true)
+    (order order′ : List ℕ) (data-order : InOrder net false order) (control-order : InOrder net true order′) where
   -- control buffers first, then the blocks from the end of the control order to its beginning
   abbrev late : ℕ → ℕ
   late b = cond (isBuffer true (blockAt net b .kind)) 0 (net .size - control-order .place b)
@@ -57,7 +61,7 @@ module _ (net : Net) (words ends : List ℕ) (ok : fieldsOk net ≡ true) (joins
   ranked =
       record {
         forward = data-order .place;
-        falls = earlier;
+        falls = earlier net words ends ok joins order data-order;
         low = λ b hb. omega (arith, data-order .stands b hb .0);
         backward = late;
         drops = later;
@@ -68,12 +72,39 @@ module _ (net : Net) (words ends : List ℕ) (ok : fieldsOk net ≡ true) (joins
     abbrev cycle : Signals
     cycle = signalsOf net words ends offer ready r
 
-    -- The signals of a cycle satisfy every block's equations.
-    pub solves : Solved net words ends offer ready r (cycle .shows) (cycle .ready)
+    pub solves-in : Solved net words ends offer ready r (cycle .shows) (cycle .ready)
     unfolding wired
-    solves = cycle-solves (viewOf net words ends) (wired net words ends ok joins) (maskOf net offer ready) r (net .size) ranked
+    solves-in = cycle-solves (viewOf net words ends) (wired net words ends ok joins) (maskOf net offer ready) r (net .size) ranked
 
-    -- Signals that satisfy them are the signals of the cycle.
-    pub unique : (X : ℕ → Sig) (Y : ℕ → Bool) → Solved net words ends offer ready r X Y → (c : ℕ) → c < net .channels → (X c ≡ cycle .shows c) × (Y c ≡ cycle .ready c)
+    pub unique-in : (X : ℕ → Sig) (Y : ℕ → Bool) → Solved net words ends offer ready r X Y → (c : ℕ) → c < net .channels → (X c ≡ cycle .shows c) × (Y c ≡ cycle .ready c)
     unfolding wired
-    unique = cycle-unique (viewOf net words ends) (wired net words ends ok joins) (maskOf net offer ready) r (net .size) ranked
+    unique-in = cycle-unique (viewOf net words ends) (wired net words ends ok joins) (maskOf net offer ready) r (net .size) ranked
+
+-- An accepted net has both orders.
+pub record Orders (net : Net) : Type 0 where
+  pub fields : fieldsOk net ≡ true
+  pub joins : connected net ≡ true
+  pub forth : List ℕ
+  pub back : List ℕ
+  pub data-order : InOrder net false forth
+  pub control-order : InOrder net true back
+
+pub orders : (net : Net) → VerdictIs net Accepted → Orders net
+orders net acc =
+    let d = order-exists net (acc .0 .fields) (acc .0 .joins) false (acc .1 .0) in
+    let c = order-exists net (acc .0 .fields) (acc .0 .joins) true (acc .1 .1) in
+    record { fields = acc .0 .fields; joins = acc .0 .joins; forth = d .0; back = c .0; data-order = d .1; control-order = c .1 }
+
+module _ (net : Net) (words ends : List ℕ) (acc : VerdictIs net Accepted) (offer ready : ℕ) (r : ℕ → Reg) where
+  -- The signals of a cycle satisfy every block's equations.
+  pub solves : Solved net words ends offer ready r (signalsOf net words ends offer ready r .shows) (signalsOf net words ends offer ready r .ready)
+  solves =
+      let o : Orders net = orders net acc in
+      solves-in net words ends (o .fields) (o .joins) (o .forth) (o .back) (o .data-order) (o .control-order) offer ready r
+
+  -- Any signals that satisfy them are, on every channel, those of the cycle.
+  pub unique : (X : ℕ → Sig) (Y : ℕ → Bool) → Solved net words ends offer ready r X Y
+      → (c : ℕ) → c < net .channels → (X c ≡ signalsOf net words ends offer ready r .shows c) × (Y c ≡ signalsOf net words ends offer ready r .ready c)
+  unique =
+      let o : Orders net = orders net acc in
+      unique-in net words ends (o .fields) (o .joins) (o .forth) (o .back) (o .data-order) (o .control-order) offer ready r

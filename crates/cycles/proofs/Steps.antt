@@ -7,33 +7,35 @@ use mathlib.Core.List.{List}
 use native.Mathlib.Omega.{arith}
 use borrow.Author.Tests.{eqb-true, eqb-false, eq-eqb, ne-eqb, ltb-false, lt-ltb}
 use lib.Dec.{eqb, leb, ltb}
-use Rattle.blocks.specs.Folds.{allBelow}
-use Rattle.blocks.specs.Signals.{validAt}
+use lib.ListN.{getD}
+use Rattle.blocks.specs.Folds.{one, allBelow}
 use Rattle.blocks.specs.Kinds.{Kind}
 use Rattle.blocks.specs.Ports.{nOut}
+use Rattle.blocks.specs.Signals.{validAt}
 use Rattle.blocks.specs.Equations.{outOf, readyOf, nextOf}
 use Rattle.blocks.specs.Shape.{inShape}
 use Rattle.blocks.specs.declared.Sig.{Sig}
 use Rattle.blocks.specs.declared.Reg.{Reg}
 use Rattle.blocks.proofs.Folds.{and-2, all-at}
-use Rattle.blocks.proofs.Local.{ready-reads, next-local}
 use Rattle.blocks.proofs.Options.{test}
+use Rattle.blocks.proofs.Local.{ready-reads, next-local}
 use Rattle.blocks.proofs.Shapes.{shape-next}
-use Rattle.nets.specs.Net.{blockAt, fieldsOk, connected}
-use Rattle.nets.specs.Promises.{InOrder}
+use Rattle.nets.specs.Net.{blockAt, fieldsOk}
+use Rattle.nets.specs.Verdict.{VerdictIs}
 use Rattle.nets.specs.declared.Net.{Net}
+use Rattle.nets.specs.declared.Verdict.the-variants.{Accepted}
 use Rattle.nets.proofs.Nets.{size-high, m-ok}
 use Rattle.cycles.specs.Streams.{streamOf, endsFit, maskOf}
 use Rattle.cycles.specs.Wires.{kindAt, viewOf}
-use Rattle.cycles.specs.Cycle.{Signals, signalsOf, nextAt}
+use Rattle.cycles.specs.Cycle.{Signals, signalsOf, nextAt, moves}
 use Rattle.cycles.specs.State.{regsOf, plainKind, entryShape, shapeOk}
 use Rattle.cycles.specs.Step.{refusalBy, refusedStep, steppedBy, stepBy}
 use Rattle.cycles.specs.Solved.{Solved}
 use Rattle.cycles.specs.declared.State.{State}
 use Rattle.cycles.specs.declared.Stepped.{Stepped}
 use Rattle.cycles.proofs.Numbers.{shape-plain, copies}
-use Rattle.cycles.proofs.States.{shape-of}
 use Rattle.cycles.proofs.Solution.{solves}
+use Rattle.cycles.proofs.States.{getD-tab, shape-of}
 
 -- what is known where nothing is refused
 pub record Passes (ok : Bool) (net : Net) (s : State) (words ends : List ℕ) (odd : Bool) (n : ℕ) : Type 0 where
@@ -89,6 +91,14 @@ module _ (ok : Bool) (net : Net) (s : State) (words ends : List ℕ) where
     pub count-rises : refusal ≡ 0 → answer .state .count ≡ s .count + 1
     count-rises e = ap (λ (t : Stepped). t .state .count) (step-worked e)
 
+-- the delivery marks and the words of a cycle, channel by channel
+module _ (net : Net) (s : State) (words ends : List ℕ) (g : Signals) (c : ℕ) (h : c < 128) where
+  pub mark-at : getD (steppedBy net s words ends g .delivered) c 0 ≡ one (moves net g c)
+  mark-at = getD-tab 128 (λ c. one (moves net g c)) 0 c h
+
+  pub word-at : getD (steppedBy net s words ends g .words) c 0 ≡ cond (moves net g c) (g .shows c .word) 0
+  word-at = getD-tab 128 (λ c. cond (moves net g c) (g .shows c .word) 0) 0 c h
+
 -- the shape of a block's registers in a state that is in shape
 pub entry-shape : (net : Net) (s : State) → shapeOk net s ≡ true → (b : ℕ) → b < 64 → b < net .size → inShape (plainKind net b) (regsOf s b) ≡ true
 unfolding shapeOk
@@ -97,7 +107,7 @@ entry-shape net s e b h l =
 
 module _ (net : Net) (words ends : List ℕ) (fields : fieldsOk net ≡ true) where
   -- the next registers, where the signals satisfy the equations
-  next-shape : (offer ready : ℕ) (r : ℕ → Reg) (g : Signals) → Solved net words ends offer ready r (g .shows) (g .ready)
+  pub next-shape : (offer ready : ℕ) (r : ℕ → Reg) (g : Signals) → Solved net words ends offer ready r (g .shows) (g .ready)
       → (b : ℕ) → b < net .size → inShape (plainKind net b) (r b) ≡ true → inShape (plainKind net b) (nextAt (viewOf net words ends) g r b) ≡ true
   next-shape offer ready r g sol b h e =
       let K : Kind = kindAt net words ends b in
@@ -114,12 +124,13 @@ module _ (net : Net) (words ends : List ℕ) (fields : fieldsOk net ≡ true) wh
       plain : (q : Reg) → inShape (kindAt net words ends b) q ≡ inShape (plainKind net b) q
       plain q = shape-plain (blockAt net b .m) (blockAt net b .value) (streamOf net words ends b) q (blockAt net b .kind)
 
-  module _ (joins : connected net ≡ true) (order order′ : List ℕ) (data-order : InOrder net false order) (control-order : InOrder net true order′) where
-    -- A step returns a state in shape where it is given one.
-    pub shape-kept : (ok : Bool) (s : State) (offer ready : ℕ) → shapeOk net s ≡ true → shapeOk net (stepBy ok net s words ends offer ready .state) ≡ true
-    shape-kept ok s offer ready e =
-        step-cases ok net s words ends offer ready (λ t. shapeOk net (t .state) ≡ true) (λ n. e)
-        (λ p. let g : Signals = signalsOf net words ends offer ready (regsOf s) in
-        shape-of net (s .count + 1) (nextAt (viewOf net words ends) g (regsOf s)) (p .room)
-        (λ b h. next-shape offer ready (regsOf s) g (solves net words ends fields joins order order′ data-order control-order offer ready (regsOf s)) b h
-        (entry-shape net s e b (omega (arith, size-high net fields)) h)))
+-- A step of an accepted net returns a state in shape where it is given one.
+pub shape-kept : (ok : Bool) (net : Net) → VerdictIs net Accepted → (s : State) (words ends : List ℕ) (offer ready : ℕ) → shapeOk net s ≡ true
+    → shapeOk net (stepBy ok net s words ends offer ready .state) ≡ true
+shape-kept ok net acc s words ends offer ready e =
+    let fields : fieldsOk net ≡ true = acc .0 .fields in
+    step-cases ok net s words ends offer ready (λ t. shapeOk net (t .state) ≡ true) (λ n. e)
+    (λ p. let g : Signals = signalsOf net words ends offer ready (regsOf s) in
+    shape-of net (s .count + 1) (nextAt (viewOf net words ends) g (regsOf s)) (p .room)
+    (λ b h. next-shape net words ends fields offer ready (regsOf s) g (solves net words ends acc offer ready (regsOf s)) b h
+    (entry-shape net s e b (omega (arith, size-high net fields)) h)))
