@@ -1,0 +1,80 @@
+// One cycle on lent arrays: the signals of every channel, and what moved.
+ghost use mathlib.Core.Path.{_≡_};
+ghost use mathlib.Core.Bool.{Bool, false, cond, _&&_};
+ghost use Prim.Native.Nat.{ℕ, _≤_, _<_, _^_};
+ghost use lib.Dec.{ltb};
+ghost use lib.ListN.{length, getD};
+ghost use Rattle.blocks.specs.Folds.{one};
+ghost use Rattle.ports.specs.Places.{sigAt, readyAt, Sized};
+ghost use Rattle.passes.specs.Rows.{regIn, Rowed, Shaped, Ahead, Back, Listed};
+ghost use Rattle.passes.specs.Passed.{AllSettled};
+ghost use Rattle.sim.specs.Ends.{streamAt, maskAt, Fitting};
+ghost use Rattle.sim.specs.Wires.{Worked, MovedIs};
+use crate::Moves;
+use crate::ends::offer_sources;
+use crate::ends::ready_sinks;
+
+// Works out what every channel shows, then whether it is ready.
+pub fn wires<'a>(
+    n: usize,
+    source_count: usize,
+    sources: &'a [u8; 64],
+    sink_count: usize,
+    sinks: &'a [u8; 64],
+    forth: &'a [u8; 64],
+    rear: &'a [u8; 64],
+    rows: &[u8; 768],
+    values: &[u32; 64],
+    stream: &[u32],
+    ends: &[u32],
+    offer: u32,
+    mask: u32,
+    words: &[u32; 64],
+    marks: &[u8; 64],
+    valid: &mut [bool; 128],
+    word: &mut [u32; 128],
+    ready: &mut [bool; 128],
+)
+    requires { ⌜ Rowed (now rows) n ⌝ }
+    requires { ⌜ (Ahead (now rows) n (now forth)) × (Back (now rows) n (now rear)) ⌝ }
+    requires { ⌜ (Listed (now rows) n 0 «source_count» (now sources)) × (Listed (now rows) n 1 «sink_count» (now sinks)) ⌝ }
+    requires { ⌜ Shaped (now rows) n (now words) (now marks) ⌝ }
+    requires { do ⌜ Fitting «source_count» (← ⟦stream.len()⟧) (now ends) ⌝ }
+    requires { ⌜ (Sized (now valid) (now word)) × (length (now ready) ≡ 128) ⌝ }
+    ensures { λ _. ⌜ Worked (now (rows .entry)) (now (values .entry)) n (streamAt (now (rows .entry)) (now (stream .entry)) (now (ends .entry))) (maskAt (now (rows .entry)) offer mask) (regIn (now (words .entry)) (now (marks .entry))) (sigAt (now (valid .exit)) (now (word .exit))) (readyAt (now (ready .exit))) ⌝ }
+    ensures { λ _. ⌜ AllSettled (now (rows .entry)) n (regIn (now (words .entry)) (now (marks .entry))) (now (valid .exit)) (now (word .exit)) ⌝ }
+    ensures { λ _. ⌜ (Sized (now (valid .exit)) (now (word .exit))) × (length (now (ready .exit)) ≡ 128) ⌝ }
+{
+    offer_sources(
+        source_count,
+        sources,
+        rows,
+        words,
+        marks,
+        stream,
+        ends,
+        offer,
+        valid,
+        word,
+    );
+    passes::ahead::forward(n, forth, rows, values, words, marks, valid, word);
+    ready_sinks(sink_count, sinks, rows, mask, ready);
+    passes::back::backward(n, rear, rows, words, marks, valid, word, ready);
+}
+
+// What moved on the first n channels.
+pub fn moves_of(n: usize, valid: &[bool; 128], word: &[u32; 128], ready: &[bool; 128]) -> Moves
+    requires { ⌜ n ≤ 128 ⌝ }
+    ensures { λ r. ⌜ MovedIs n (sigAt (now (valid .entry)) (now (word .entry))) (readyAt (now (ready .entry))) (r .delivered) (r .words) ⌝ }
+{
+    let mut delivered = [0u8; 128];
+    let mut words = [0u32; 128];
+    let mut c: usize = 0;
+    while c < n {
+        let s = blocks::cycle::show(ports::moved(c, valid, ready), word[c]);
+        delivered[c] = s.valid as u8;
+        words[c] = s.word;
+        c += 1;
+    }
+    Moves { delivered, words }
+}
