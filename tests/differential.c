@@ -27,7 +27,8 @@ static const struct wish any_net = {{64, 128, 32, 32}, 0, 1, ~0u};
 
 static struct random random_for(unsigned class, unsigned i)
 {
-    return (struct random){(first_seed * 64 + class) << 32 | i};
+    uint64_t first = (first_seed * 64 + class) << 32 | i;
+    return (struct random){first, first};
 }
 
 // ---- Scenes
@@ -36,7 +37,7 @@ static void set_job(struct scene *s, struct random *r, const char *name, size_t 
 {
     size_t cycles = chance(r, 40) ? 0 : 1 + below(r, longest);
     draw_masks(r, below(r, MASK_WAYS), cycles, s->masks);
-    s->job = (struct job){.name = name, .seed = r->state, .placing = below(r, 4), .want = 0};
+    s->job = (struct job){.name = name, .seed = r->first, .placing = below(r, 4), .want = 0};
     s->job.form = (struct slice){s->form.bytes, s->form.len};
     s->job.words = as_bytes(s->words, words, s->word_bytes);
     s->job.ends = as_bytes(s->ends, count_kind(&s->draft, SOURCE), s->end_bytes);
@@ -89,7 +90,6 @@ static void try_nets(unsigned nets)
         struct wish wish = some_wish(&r);
         const uint8_t *trace;
         draw_scene(&s, &r, &wish, "accepted nets", chance(&r, 50) ? CYCLE_ROOM : 60);
-        s.job.seed = i;
         if (chance(&r, 8)) s.job.trace_len = below(&r, (uint32_t)s.job.trace_len + 1);
         uint64_t answer = compare(&s.job, &trace);
         take_notes(&s, answer, trace);
@@ -189,7 +189,7 @@ static void try_many_sources(void)
         while (count_kind(&s.draft, SOURCE) <= 32 && count_kind(&s.draft, SINK) <= 32);
         write_form(&s.draft, &s.form);
         memset(s.ends, 0, sizeof s.ends);
-        s.job = (struct job){.name = "over 32 sources or sinks", .seed = i, .form = {s.form.bytes, s.form.len}, .placing = i % 4, .want = 9};
+        s.job = (struct job){.name = "over 32 sources or sinks", .seed = r.first, .form = {s.form.bytes, s.form.len}, .placing = i % 4, .want = 9};
         compare(&s.job, NULL);
     }
 }
@@ -482,7 +482,7 @@ static void try_examples(const char *folder)
     uint32_t masks[2 * 64];
     for (unsigned i = 0; i < 5 * 200; i++) {
         struct random r = random_for(19, i);
-        struct job job = {.name = "examples", .seed = i, .trace_len = 8192, .placing = i % 4, .want = 0};
+        struct job job = {.name = "examples", .seed = r.first, .trace_len = 8192, .placing = i % 4, .want = 0};
         job.form = read_file(folder, examples[i % 5].name, form, sizeof form);
         job.words = as_bytes(words, 6, bytes[0]);
         job.ends = as_bytes(ends, examples[i % 5].sources, bytes[1]);

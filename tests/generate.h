@@ -10,7 +10,8 @@ enum { SOURCE, SINK, OPERATOR, CONSTANT, FORK, MUX, DEMUX, MERGE, DATA, FULL_DAT
 // Room beyond the 64 blocks and 128 channels of a net, for growing past them and for nets that are too big on purpose.
 enum { BLOCK_ROOM = 128, CHANNEL_ROOM = 256, PORT_ROOM = 10, FORM_ROOM = 4096 };
 
-struct random { uint64_t state; };
+// A row of random numbers: where it is now, and where it began.
+struct random { uint64_t state, first; };
 
 // The next 32 random bits; a number below n; one chance in n.
 uint32_t random_bits(struct random *r);

@@ -13,7 +13,7 @@ struct reg { uint32_t word, marks; };
 struct wire { uint32_t valid, ready, word; };
 
 // A net at work: its registers, this cycle's signals by channel, the streams, and this cycle's masks.
-struct machine {
+struct circuit {
     struct net net;
     struct reg reg[64];
     struct wire wire[128];
@@ -181,12 +181,12 @@ static uint32_t load(const uint8_t *form, size_t form_len, struct net *net)
 
 // ---- One cycle: for each kind what its outputs show, which inputs are ready, and its registers afterwards
 
-static struct wire *in(struct machine *s, const struct block *b, uint32_t i)
+static struct wire *in(struct circuit *s, const struct block *b, uint32_t i)
 {
     return &s->wire[b->in[i]];
 }
 
-static struct wire *out(struct machine *s, const struct block *b, uint32_t i)
+static struct wire *out(struct circuit *s, const struct block *b, uint32_t i)
 {
     return &s->wire[b->out[i]];
 }
@@ -208,7 +208,7 @@ static uint32_t number_at(const uint8_t *bytes, size_t i)
     return (uint32_t)bytes[0] << 24 | (uint32_t)bytes[1] << 16 | (uint32_t)bytes[2] << 8 | bytes[3];
 }
 
-static void source_show(struct machine *s, const struct block *b, const struct reg *r)
+static void source_show(struct circuit *s, const struct block *b, const struct reg *r)
 {
     uint32_t start = b->number > 0 ? number_at(s->ends, b->number - 1) : 0;
     uint32_t length = number_at(s->ends, b->number) - start;
@@ -217,43 +217,43 @@ static void source_show(struct machine *s, const struct block *b, const struct r
     else show(out(s, b, 0), 0, 0);
 }
 
-static void source_next(struct machine *s, const struct block *b, struct reg *r)
+static void source_next(struct circuit *s, const struct block *b, struct reg *r)
 {
     if (delivers(out(s, b, 0))) *r = (struct reg){r->word + 1, 0};
     else r->marks = out(s, b, 0)->valid;
 }
 
-static void sink_ready(struct machine *s, const struct block *b, const struct reg *r)
+static void sink_ready(struct circuit *s, const struct block *b, const struct reg *r)
 {
     (void)r;
     in(s, b, 0)->ready = s->takes >> b->number & 1;
 }
 
-static void operator_show(struct machine *s, const struct block *b, const struct reg *r)
+static void operator_show(struct circuit *s, const struct block *b, const struct reg *r)
 {
     (void)r;
     struct wire *x = in(s, b, 0), *y = in(s, b, 1);
     show(out(s, b, 0), x->valid && y->valid, compute(b->m, x->word, y->word));
 }
 
-static void constant_show(struct machine *s, const struct block *b, const struct reg *r)
+static void constant_show(struct circuit *s, const struct block *b, const struct reg *r)
 {
     (void)r;
     show(out(s, b, 0), in(s, b, 0)->valid, compute(b->m, in(s, b, 0)->word, b->value));
 }
 
-static void operator_ready(struct machine *s, const struct block *b, const struct reg *r)
+static void operator_ready(struct circuit *s, const struct block *b, const struct reg *r)
 {
     (void)r;
     for (uint32_t i = 0; i < b->ins; i++) in(s, b, i)->ready = delivers(out(s, b, 0));
 }
 
-static void fork_show(struct machine *s, const struct block *b, const struct reg *r)
+static void fork_show(struct circuit *s, const struct block *b, const struct reg *r)
 {
     for (uint32_t i = 0; i < b->m; i++) show(out(s, b, i), in(s, b, 0)->valid && !(r->marks >> i & 1), in(s, b, 0)->word);
 }
 
-static void fork_ready(struct machine *s, const struct block *b, const struct reg *r)
+static void fork_ready(struct circuit *s, const struct block *b, const struct reg *r)
 {
     int all_done = 1;
     for (uint32_t i = 0; i < b->m; i++)
@@ -261,14 +261,14 @@ static void fork_ready(struct machine *s, const struct block *b, const struct re
     in(s, b, 0)->ready = in(s, b, 0)->valid && all_done;
 }
 
-static void fork_next(struct machine *s, const struct block *b, struct reg *r)
+static void fork_next(struct circuit *s, const struct block *b, struct reg *r)
 {
     for (uint32_t i = 0; i < b->m; i++)
         if (delivers(out(s, b, i))) r->marks |= 1u << i;
     if (in(s, b, 0)->ready) r->marks = 0;
 }
 
-static void mux_show(struct machine *s, const struct block *b, const struct reg *r)
+static void mux_show(struct circuit *s, const struct block *b, const struct reg *r)
 {
     (void)r;
     struct wire *select = in(s, b, 0);
@@ -278,7 +278,7 @@ static void mux_show(struct machine *s, const struct block *b, const struct reg 
     } else show(out(s, b, 0), 0, 0);
 }
 
-static void mux_ready(struct machine *s, const struct block *b, const struct reg *r)
+static void mux_ready(struct circuit *s, const struct block *b, const struct reg *r)
 {
     (void)r;
     struct wire *select = in(s, b, 0);
@@ -286,14 +286,14 @@ static void mux_ready(struct machine *s, const struct block *b, const struct reg
     select->ready = delivers(out(s, b, 0));
 }
 
-static void demux_show(struct machine *s, const struct block *b, const struct reg *r)
+static void demux_show(struct circuit *s, const struct block *b, const struct reg *r)
 {
     (void)r;
     struct wire *select = in(s, b, 0), *data = in(s, b, 1);
     for (uint32_t i = 0; i < b->m; i++) show(out(s, b, i), select->valid && data->valid && select->word == i, data->word);
 }
 
-static void demux_ready(struct machine *s, const struct block *b, const struct reg *r)
+static void demux_ready(struct circuit *s, const struct block *b, const struct reg *r)
 {
     (void)r;
     int gone = 0;
@@ -303,7 +303,7 @@ static void demux_ready(struct machine *s, const struct block *b, const struct r
 }
 
 // The winner, 1 to m, if its input is V; else 0.
-static uint32_t merge_winner(struct machine *s, const struct block *b, const struct reg *r)
+static uint32_t merge_winner(struct circuit *s, const struct block *b, const struct reg *r)
 {
     uint32_t w = r->word;
     for (uint32_t i = 0; w == 0 && i < b->m; i++)
@@ -311,25 +311,25 @@ static uint32_t merge_winner(struct machine *s, const struct block *b, const str
     return w != 0 && in(s, b, w - 1)->valid ? w : 0;
 }
 
-static void merge_show(struct machine *s, const struct block *b, const struct reg *r)
+static void merge_show(struct circuit *s, const struct block *b, const struct reg *r)
 {
     uint32_t w = merge_winner(s, b, r);
     show(out(s, b, 0), w && !(r->marks & 1), w ? in(s, b, w - 1)->word : 0);
     show(out(s, b, 1), w && !(r->marks & 2), w - 1);
 }
 
-static int merge_done(struct machine *s, const struct block *b, const struct reg *r)
+static int merge_done(struct circuit *s, const struct block *b, const struct reg *r)
 {
     return (r->marks & 1 || delivers(out(s, b, 0))) && (r->marks & 2 || delivers(out(s, b, 1)));
 }
 
-static void merge_ready(struct machine *s, const struct block *b, const struct reg *r)
+static void merge_ready(struct circuit *s, const struct block *b, const struct reg *r)
 {
     uint32_t w = merge_winner(s, b, r);
     for (uint32_t i = 0; i < b->m; i++) in(s, b, i)->ready = w == i + 1 && merge_done(s, b, r);
 }
 
-static void merge_next(struct machine *s, const struct block *b, struct reg *r)
+static void merge_next(struct circuit *s, const struct block *b, struct reg *r)
 {
     uint32_t w = merge_winner(s, b, r);
     if (w == 0) return;
@@ -337,34 +337,34 @@ static void merge_next(struct machine *s, const struct block *b, struct reg *r)
     *r = merge_done(s, b, r) ? (struct reg){0, 0} : (struct reg){w, marks};
 }
 
-static void data_show(struct machine *s, const struct block *b, const struct reg *r)
+static void data_show(struct circuit *s, const struct block *b, const struct reg *r)
 {
     show(out(s, b, 0), r->marks, r->word);
 }
 
-static void data_ready(struct machine *s, const struct block *b, const struct reg *r)
+static void data_ready(struct circuit *s, const struct block *b, const struct reg *r)
 {
     in(s, b, 0)->ready = !r->marks || out(s, b, 0)->ready;
 }
 
-static void data_next(struct machine *s, const struct block *b, struct reg *r)
+static void data_next(struct circuit *s, const struct block *b, struct reg *r)
 {
     struct wire *w = in(s, b, 0);
     if (w->ready) *r = w->valid ? (struct reg){w->word, 1} : (struct reg){0, 0};
 }
 
-static void control_show(struct machine *s, const struct block *b, const struct reg *r)
+static void control_show(struct circuit *s, const struct block *b, const struct reg *r)
 {
     if (r->marks) show(out(s, b, 0), 1, r->word);
     else show(out(s, b, 0), in(s, b, 0)->valid, in(s, b, 0)->word);
 }
 
-static void control_ready(struct machine *s, const struct block *b, const struct reg *r)
+static void control_ready(struct circuit *s, const struct block *b, const struct reg *r)
 {
     in(s, b, 0)->ready = !r->marks;
 }
 
-static void control_next(struct machine *s, const struct block *b, struct reg *r)
+static void control_next(struct circuit *s, const struct block *b, struct reg *r)
 {
     struct wire *w = in(s, b, 0);
     if (r->marks) {
@@ -372,8 +372,8 @@ static void control_next(struct machine *s, const struct block *b, struct reg *r
     } else if (w->valid && !out(s, b, 0)->ready) *r = (struct reg){w->word, 1};
 }
 
-typedef void signal_rule(struct machine *, const struct block *, const struct reg *);
-typedef void register_rule(struct machine *, const struct block *, struct reg *);
+typedef void signal_rule(struct circuit *, const struct block *, const struct reg *);
+typedef void register_rule(struct circuit *, const struct block *, struct reg *);
 
 static struct { signal_rule *show, *ready; register_rule *next; } rules[KINDS] = {
     [SOURCE] = {source_show, NULL, source_next},
@@ -390,7 +390,7 @@ static struct { signal_rule *show, *ready; register_rule *next; } rules[KINDS] =
 };
 
 // Sweeps over all blocks until nothing changes: with backward 0 what the outputs show, with 1 which inputs are ready.
-static void settle(struct machine *s, int backward)
+static void settle(struct circuit *s, int backward)
 {
     struct wire before[128];
     do {
@@ -404,14 +404,14 @@ static void settle(struct machine *s, int backward)
 }
 
 // V and word forward from the registers, then R backward.
-static void work_out_signals(struct machine *s)
+static void work_out_signals(struct circuit *s)
 {
     memset(s->wire, 0, sizeof s->wire);
     settle(s, 0);
     settle(s, 1);
 }
 
-static void work_out_registers(struct machine *s)
+static void work_out_registers(struct circuit *s)
 {
     for (uint32_t b = 0; b < s->net.blocks; b++) {
         const struct block *block = &s->net.block[b];
@@ -419,7 +419,7 @@ static void work_out_registers(struct machine *s)
     }
 }
 
-static void make_fresh(struct machine *s)
+static void make_fresh(struct circuit *s)
 {
     memset(s->reg, 0, sizeof s->reg);
     for (uint32_t b = 0; b < s->net.blocks; b++)
@@ -428,7 +428,7 @@ static void make_fresh(struct machine *s)
 
 // ---- Runs and the trace
 
-static size_t count_deliveries(const struct machine *s)
+static size_t count_deliveries(const struct circuit *s)
 {
     size_t count = 0;
     for (uint32_t c = 0; c < s->net.channels; c++) count += delivers(&s->wire[c]);
@@ -436,7 +436,7 @@ static size_t count_deliveries(const struct machine *s)
 }
 
 // Writes this cycle's records into the trace from a byte on; answers the byte after them.
-static size_t write_records(const struct machine *s, uint32_t cycle, uint8_t *trace, size_t at)
+static size_t write_records(const struct circuit *s, uint32_t cycle, uint8_t *trace, size_t at)
 {
     for (uint32_t c = 0; c < s->net.channels; c++) {
         if (!delivers(&s->wire[c])) continue;
@@ -478,7 +478,7 @@ uint32_t model_check(const uint8_t *form, size_t form_len)
 uint64_t model_run(const uint8_t *form, size_t form_len, const uint8_t *words, size_t words_len, const uint8_t *ends, size_t ends_len,
                    const uint8_t *masks, size_t masks_len, uint8_t *trace, size_t trace_len)
 {
-    struct machine s = {.words = words, .ends = ends};
+    struct circuit s = {.words = words, .ends = ends};
     size_t used = 0, cycles = masks_len / 8;
     uint32_t refusal = load(form, form_len, &s.net);
     if (!refusal) refusal = refuse_streams(&s.net, words_len, ends, ends_len);

@@ -7,7 +7,7 @@
 
 #ifdef OLD_FORK_MARKS
 // Marks come one cycle late: the word register, which a fork does not use, keeps the newer ones.
-static void broken_next(struct machine *s, const struct block *b, struct reg *r)
+static void broken_next(struct circuit *s, const struct block *b, struct reg *r)
 {
     uint32_t newer = r->word;
     fork_next(s, b, r);
@@ -19,7 +19,7 @@ static void broken_next(struct machine *s, const struct block *b, struct reg *r)
 
 #ifdef MERGE_FORGETS
 // A winner of which neither side went is not recorded.
-static void broken_next(struct machine *s, const struct block *b, struct reg *r)
+static void broken_next(struct circuit *s, const struct block *b, struct reg *r)
 {
     merge_next(s, b, r);
     if (r->marks == 0) r->word = 0;
@@ -29,7 +29,7 @@ static void broken_next(struct machine *s, const struct block *b, struct reg *r)
 
 #ifdef MERGE_HIGHEST
 // The highest-numbered input wins in place of the lowest.
-static void broken_show(struct machine *s, const struct block *b, const struct reg *r)
+static void broken_show(struct circuit *s, const struct block *b, const struct reg *r)
 {
     struct reg other = *r;
     for (uint32_t i = 0; r->word == 0 && i < b->m; i++)
@@ -41,7 +41,7 @@ static void broken_show(struct machine *s, const struct block *b, const struct r
 
 #ifdef CONTROL_READY_WHILE_FULL
 // A full control buffer takes a word when its own goes.
-static void broken_ready(struct machine *s, const struct block *b, const struct reg *r)
+static void broken_ready(struct circuit *s, const struct block *b, const struct reg *r)
 {
     in(s, b, 0)->ready = !r->marks || out(s, b, 0)->ready;
 }
@@ -50,7 +50,7 @@ static void broken_ready(struct machine *s, const struct block *b, const struct 
 
 #ifdef CONTROL_TAKES_LATE
 // An empty control buffer is ready only when its output is.
-static void broken_ready(struct machine *s, const struct block *b, const struct reg *r)
+static void broken_ready(struct circuit *s, const struct block *b, const struct reg *r)
 {
     in(s, b, 0)->ready = !r->marks && out(s, b, 0)->ready;
 }
@@ -59,7 +59,7 @@ static void broken_ready(struct machine *s, const struct block *b, const struct 
 
 #ifdef DATA_EMPTY_FIRST
 // A full data buffer is never ready, so that it empties before it takes.
-static void broken_ready(struct machine *s, const struct block *b, const struct reg *r)
+static void broken_ready(struct circuit *s, const struct block *b, const struct reg *r)
 {
     (void)s;
     in(s, b, 0)->ready = !r->marks;
@@ -69,7 +69,7 @@ static void broken_ready(struct machine *s, const struct block *b, const struct 
 
 #ifdef ZERO_IS_EMPTY
 // A data buffer that holds the word 0 looks empty.
-static void broken_show(struct machine *s, const struct block *b, const struct reg *r)
+static void broken_show(struct circuit *s, const struct block *b, const struct reg *r)
 {
     show(out(s, b, 0), r->marks && r->word != 0, r->word);
 }
@@ -78,7 +78,7 @@ static void broken_show(struct machine *s, const struct block *b, const struct r
 
 #ifdef SELECT_WRAPS
 // A select word at or above m names a port all the same.
-static void broken_show(struct machine *s, const struct block *b, const struct reg *r)
+static void broken_show(struct circuit *s, const struct block *b, const struct reg *r)
 {
     (void)r;
     for (uint32_t i = 0; i < b->m; i++)
@@ -89,7 +89,7 @@ static void broken_show(struct machine *s, const struct block *b, const struct r
 
 #ifdef MUX_TAKES_ALL
 // Every input of a mux is ready when its output goes.
-static void broken_ready(struct machine *s, const struct block *b, const struct reg *r)
+static void broken_ready(struct circuit *s, const struct block *b, const struct reg *r)
 {
     (void)r;
     for (uint32_t i = 0; i < b->ins; i++) in(s, b, i)->ready = delivers(out(s, b, 0));
@@ -99,7 +99,7 @@ static void broken_ready(struct machine *s, const struct block *b, const struct 
 
 #ifdef SOURCE_FORGETS
 // A source does not hold a word that was not taken.
-static void broken_next(struct machine *s, const struct block *b, struct reg *r)
+static void broken_next(struct circuit *s, const struct block *b, struct reg *r)
 {
     source_next(s, b, r);
     r->marks = 0;
@@ -109,7 +109,7 @@ static void broken_next(struct machine *s, const struct block *b, struct reg *r)
 
 #ifdef SIGNED_LESS
 // Less compares signed numbers.
-static void broken_show(struct machine *s, const struct block *b, const struct reg *r)
+static void broken_show(struct circuit *s, const struct block *b, const struct reg *r)
 {
     operator_show(s, b, r);
     if (b->m == LESS && out(s, b, 0)->valid) out(s, b, 0)->word = (int32_t)in(s, b, 0)->word < (int32_t)in(s, b, 1)->word;
