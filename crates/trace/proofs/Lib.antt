@@ -1,0 +1,4 @@
+-- Laws of a trace: of a cycle's records, of their bytes, and of the numbers that bytes make.
+pub mod ByteNumbers
+pub mod RecordLists
+pub mod TraceBytes
