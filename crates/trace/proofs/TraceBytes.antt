@@ -39,13 +39,20 @@ bytes-stored r l h s =
     let e : r / 2 ^ 56 ≡ r / 2 ^ 56 % 256 = omega arith in
     ap (λ (b : ℕ). sets l 0 (b ∷ laterBytes r)) e ∙ sets-eq (bytesOf r) l 0 s
 
--- the tail of a list, as it is lent from byte a on, and the list with another tail in its place
+-- the tail of a list, as it is lent from element a on
 pub tail-lent : (a : ℕ) (l : List ℕ) → midOf a (length l - a) l ≡ drop a l
 tail-lent a l = take-all (length l - a) (drop a l) (rw length-drop (omega arith))
 
-pub tail-back : (a : ℕ) (l t : List ℕ) → putMid a (length l - a) l t ≡ take a l ++ t
+-- the list with the tail that came back
+tail-back : (a : ℕ) (l t : List ℕ) → putMid a (length l - a) l t ≡ take a l ++ t
 tail-back a l t =
     ap (λ (z : List ℕ). take a l ++ (t ++ z)) (drop-of-length-le (drop a l) {i = length l - a} (rw length-drop (omega arith))) ∙ ap (λ (z : List ℕ). take a l ++ z) (append-nil t)
+
+-- a tail at whose beginning n elements were written over: what stands before it and what follows are as they were
+pub tail-written : (a n : ℕ) (l b t : List ℕ) → t ≡ b ++ drop n (midOf a (length l - a) l) → putMid a (length l - a) l t ≡ take a l ++ (b ++ drop (a + n) l)
+tail-written a n l b t e =
+    let rest : drop n (midOf a (length l - a) l) ≡ drop (a + n) l = ap (drop n) (tail-lent a l) ∙ drop-drop n a l in
+    tail-back a l t ∙ ap (λ (z : List ℕ). take a l ++ z) (e ∙ ap (λ (z : List ℕ). b ++ z) rest)
 
 -- the first j records of a list are written over the beginning of a part d of the trace
 abbrev pub written : List ℕ → List ℕ → ℕ → List ℕ
@@ -72,7 +79,6 @@ module _ (list d : List ℕ) (j : ℕ) (s : j < length list) (h : 8 * j + 8 ≤ 
       let front : take (8 * j) l ≡ T = ap (take (8 * j)) w ∙ take-at T (drop (8 * j) d) (8 * j) trace-taken in
       let tail : drop (8 * j) l ≡ drop (8 * j) d = ap (drop (8 * j)) w ∙ drop-at T (drop (8 * j) d) (8 * j) trace-taken in
       let next : 8 * j + 8 ≡ 8 * (j + 1) = omega arith in
-      let rest : drop 8 (drop (8 * j) d) ≡ drop (8 * (j + 1)) d = drop-drop 8 (8 * j) d ∙ ap (λ (n : ℕ). drop n d) next in
-      let new : t ≡ bytesOf r ++ drop (8 * (j + 1)) d = e ∙ ap (λ (z : List ℕ). bytesOf r ++ drop 8 z) (tail-lent (8 * j) l ∙ tail) ∙ ap (λ (z : List ℕ). bytesOf r ++ z) rest in
-      tail-back (8 * j) l t ∙ ap₂ (λ (y z : List ℕ). y ++ z) front new
+      let rest : drop (8 * j + 8) l ≡ drop (8 * (j + 1)) d = sym (drop-drop 8 (8 * j) l) ∙ ap (drop 8) tail ∙ drop-drop 8 (8 * j) d ∙ ap (λ (n : ℕ). drop n d) next in
+      tail-written (8 * j) 8 l (bytesOf r) t e ∙ ap₂ (λ (y z : List ℕ). y ++ (bytesOf r ++ z)) front rest
       ∙ sym (append-assoc T (bytesOf r) (drop (8 * (j + 1)) d)) ∙ ap (λ (z : List ℕ). z ++ drop (8 * (j + 1)) d) (sym trace-more)
