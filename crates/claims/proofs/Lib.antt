@@ -1,0 +1,3 @@
+-- The promises, proved, and document 01's starred trial runs.
+pub mod Theorems
+pub mod Trials

@@ -1,0 +1,113 @@
+-- The promises over lists of calls, written with `freshOf` and `stepOf`: the contracts of `sim::fresh` and `sim::step` say that these calls answer exactly so.
+-- proofs/Theorems.antt proves each one. `put`, the words that firings of the queue machine put, is crate queue's.
+-- Assumes nothing.
+use Prim.Native.Nat.{ℕ, _+_, _<_}
+use mathlib.Core.Path.{_≡_}
+use mathlib.Core.Bool.{true, false}
+use mathlib.Core.Logic.{_≢_, _↔_}
+use mathlib.Core.List.{List, [], _∷_, _++_, IsPrefix, List·Memᴰ}
+use lib.ListN.{getD, replicate}
+use Rattle.blocks.specs.Firing.{first}
+use Rattle.nets.specs.Net.{blockAt}
+use Rattle.nets.specs.Verdict.{VerdictIs}
+use Rattle.nets.specs.declared.Net.{Net}
+use Rattle.nets.specs.declared.Verdict.the-variants.{Accepted}
+use Rattle.nets.proofs.Decided.{accepted}
+use Rattle.cycles.specs.State.{regsOf, plainKind, shapeOk}
+use Rattle.cycles.specs.declared.State.{State}
+use Rattle.cycles.specs.declared.Stepped.{Stepped}
+use Rattle.queue.specs.Machine.{put}
+use Rattle.queue.specs.Delivered.{Input, marked, over}
+use Rattle.queue.specs.Claims.{MergeFree, Comparable, anyBuffer, holds}
+use Rattle.sim.specs.Calls.{freshOf, stepOf}
+
+-- ## A list of steps
+
+-- what `step` answers over one input: streams and masks
+abbrev pub stepIn : Net → State → Input → Stepped
+stepIn net s n = stepOf net s (n .words) (n .ends) (n .offer) (n .ready)
+
+-- "in step order, the words returned with a delivery mark for that channel": steps from state s, refused ones included, each given the state that the last one
+-- returned
+abbrev pub wordsFrom : Net → State → List Input → ℕ → List ℕ
+wordsFrom net s [] c = []
+wordsFrom net s (n ∷ ns) c = marked (stepIn net s n) c ++ wordsFrom net (stepIn net s n .state) ns c
+
+-- the state that the last one returns
+abbrev pub stateFrom : Net → State → List Input → State
+stateFrom net s [] = s
+stateFrom net s (n ∷ ns) = stateFrom net (stepIn net s n .state) ns
+
+-- from the fresh state, over one set of streams and a list of masks, offer and ready
+abbrev pub deliveredOf : Net → List ℕ → List ℕ → List (ℕ × ℕ) → ℕ → List ℕ
+deliveredOf net words ends masks c = wordsFrom net (freshOf net .state) (over words ends masks) c
+
+-- ## The word guarantee
+
+-- "one claim about the whole list of steps, not one for each step": for every list of steps there is ONE list F of firings of the net's blocks that puts, on every
+-- channel, a list beginning with the words delivered there.
+abbrev pub Guaranteed : Type 0
+Guaranteed =
+    (net : Net) (words ends : List ℕ) → accepted net ≡ true → MergeFree net → (masks : List (ℕ × ℕ))
+    → (F : List ℕ) × ((b : ℕ) → List·Memᴰ b F → b < net .size) × ((c : ℕ) → c < net .channels → IsPrefix (deliveredOf net words ends masks c) (put net words ends F c))
+
+-- "in any order": of any two lists of firings one puts, on each channel taken alone, a beginning of what the other puts.
+abbrev pub FiringsComparable : Type 0
+FiringsComparable =
+    (net : Net) (words ends : List ℕ) → accepted net ≡ true → (F G : List ℕ) (c : ℕ) → c < net .channels → Comparable (put net words ends F c) (put net words ends G c)
+
+-- So of two lists of steps over one set of streams one delivers, on each channel, a beginning of what the other delivers.
+abbrev pub StepsComparable : Type 0
+StepsComparable =
+    (net : Net) (words ends : List ℕ) → accepted net ≡ true → MergeFree net → (masks others : List (ℕ × ℕ)) (c : ℕ) → c < net .channels
+    → Comparable (deliveredOf net words ends masks c) (deliveredOf net words ends others c)
+
+-- ## Buffers
+
+-- "a buffer's words given out, followed by the word it holds, equal its first word, if any, followed by the words it took in": merges included, and each step may
+-- have other streams. A buffer's port 0 is its input, port 1 its output.
+abbrev pub BuffersKeep : Type 0
+BuffersKeep =
+    (net : Net) → accepted net ≡ true → (b : ℕ) → b < net .size → anyBuffer (blockAt net b .kind) ≡ true → (steps : List Input)
+    → wordsFrom net (freshOf net .state) steps (getD (blockAt net b .ports) 1 0) ++ holds (regsOf (stateFrom net (freshOf net .state) steps) b)
+    ≡ first (plainKind net b) ++ wordsFrom net (freshOf net .state) steps (getD (blockAt net b .ports) 0 0)
+
+-- ## Refusals
+
+-- `accepted` is the verdict by cases of crate nets
+abbrev pub AcceptedIs : Type 0
+AcceptedIs = (net : Net) → (accepted net ≡ true) ↔ VerdictIs net Accepted
+
+-- "An accepted net is a net value that doesn't earn 12": both calls refuse with 12 exactly the others.
+abbrev pub Earns12 : Type 0
+Earns12 =
+    (net : Net)
+    → ((freshOf net .refusal ≡ 12) ↔ (accepted net ≡ false))
+    × ((s : State) (words ends : List ℕ) (offer ready : ℕ) → (stepOf net s words ends offer ready .refusal ≡ 12) ↔ (accepted net ≡ false))
+
+-- A refused step returns the state handed in, nothing delivered.
+abbrev pub RefusedUnchanged : Type 0
+RefusedUnchanged =
+    (net : Net) (s : State) (words ends : List ℕ) (offer ready : ℕ) → stepOf net s words ends offer ready .refusal ≢ 0
+    → (stepOf net s words ends offer ready .state ≡ s)
+    × (stepOf net s words ends offer ready .delivered ≡ replicate 128 0)
+    × (stepOf net s words ends offer ready .words ≡ replicate 128 0)
+
+-- Another one returns a state whose count is one higher.
+abbrev pub CountRises : Type 0
+CountRises =
+    (net : Net) (s : State) (words ends : List ℕ) (offer ready : ℕ) → stepOf net s words ends offer ready .refusal ≡ 0
+    → stepOf net s words ends offer ready .state .count ≡ s .count + 1
+
+-- ## Shape
+
+-- Of an accepted net the fresh state is in shape, and a step from a state in shape returns one.
+abbrev pub ShapeKept : Type 0
+ShapeKept =
+    (net : Net) → accepted net ≡ true
+    → (shapeOk net (freshOf net .state) ≡ true)
+    × ((s : State) (words ends : List ℕ) (offer ready : ℕ) → shapeOk net s ≡ true → shapeOk net (stepOf net s words ends offer ready .state) ≡ true)
+
+-- So no step of a list of steps from fresh is refused with 13, whatever the net.
+abbrev pub Never13 : Type 0
+Never13 = (net : Net) (steps : List Input) (n : Input) → stepIn net (stateFrom net (freshOf net .state) steps) n .refusal ≢ 13
