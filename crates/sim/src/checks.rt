@@ -6,6 +6,7 @@ ghost use lib.Dec.{eqb};
 ghost use lib.ListN.{length};
 ghost use Rattle.cycles.specs.Streams.{ascend};
 ghost use Rattle.passes.specs.Rows.{Rowed};
+ghost use Rattle.trace.specs.Numbers.{given};
 ghost use Rattle.sim.specs.Checks.{entryNo, shapeNo};
 use blocks::Reg;
 use cycles::State;
@@ -45,16 +46,16 @@ pub fn shape_ok(state: State, n: usize, rows: &[u8; 768]) -> bool
 }
 
 // There are count ends, which do not descend and do not pass `long` words.
-pub fn ends_fit(count: usize, long: usize, ends: &[u32]) -> bool
-    ensures { λ r. ⌜ r ≡ (eqb (length (now (ends .entry))) count && ascend 0 long (now (ends .entry))) ⌝ }
+pub fn ends_fit(count: usize, long: usize, end_bytes: &[u8], ends: &[u32]) -> bool
+    ensures { λ r. ⌜ r ≡ (eqb (length (given (now («end_bytes» .entry)) (now (ends .entry)))) count && ascend 0 long (given (now («end_bytes» .entry)) (now (ends .entry)))) ⌝ }
 {
-    if ends.len() != count {
+    if trace::numbers::numbers_in(end_bytes, ends) != count {
         return false;
     }
     let mut low: usize = 0;
     let mut i: usize = 0;
-    while i < ends.len() {
-        let end = ends[i] as usize;
+    while i < count {
+        let end = trace::numbers::number_in(end_bytes, ends, i) as usize;
         if end < low {
             return false;
         }

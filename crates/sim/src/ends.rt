@@ -12,18 +12,19 @@ ghost use Rattle.ports.specs.Places.{sigAt, readyAt, portAt, Ported, Sized, Put
 ghost use Rattle.passes.specs.Rows.{regIn};
 ghost use Rattle.passes.specs.Pass.{Holds};
 ghost use Rattle.passes.specs.Passed.{ahead, back};
+ghost use Rattle.trace.specs.Numbers.{given};
 ghost use Rattle.sim.specs.Flat.{Among};
 ghost use Rattle.sim.specs.Ends.{streamAt, maskAt, Fitting};
 use blocks::Reg;
 
 // The word at position p of a stream that begins at `start` and has len words; 0 past its end.
-fn word_at(p: u32, start: u32, len: u32, stream: &[u32]) -> u32
-    requires { do ⌜ start + len ≤ (← ⟦stream.len()⟧) ⌝ }
-    ensures { λ r. ⌜ (p < len → r ≡ getD (now (stream .entry)) (start + p) 0) ⌝ }
+fn word_at(p: u32, start: u32, len: u32, bytes: &[u8], stream: &[u32]) -> u32
+    requires { ⌜ start + len ≤ length (given (now bytes) (now stream)) ⌝ }
+    ensures { λ r. ⌜ (p < len → r ≡ getD (given (now (bytes .entry)) (now (stream .entry))) (start + p) 0) ⌝ }
 {
     if p < len {
         let i = start as usize + p as usize;
-        stream[i]
+        trace::numbers::number_in(bytes, stream, i)
     } else {
         0
     }
@@ -35,6 +36,7 @@ fn offer_one(
     start: u32,
     end: u32,
     offer: bool,
+    bytes: &[u8],
     stream: &[u32],
     base: usize,
     rows: &[u8; 768],
@@ -43,13 +45,13 @@ fn offer_one(
 )
     requires { ⌜ Ported (now rows) base ⌝ }
     requires { ⌜ Sized (now valid) (now word) ⌝ }
-    requires { do ⌜ (start ≤ end) × (end ≤ (← ⟦stream.len()⟧)) ⌝ }
-    ensures { λ _. ⌜ Put (λ j. portAt (now (rows .entry)) base (0 + j)) (λ j. sourceOut (slice start end (now (stream .entry))) reg offer) 1 (sigAt (now (valid .entry)) (now (word .entry))) (sigAt (now (valid .exit)) (now (word .exit))) ⌝ }
+    requires { ⌜ (start ≤ end) × (end ≤ length (given (now bytes) (now stream))) ⌝ }
+    ensures { λ _. ⌜ Put (λ j. portAt (now (rows .entry)) base (0 + j)) (λ j. sourceOut (slice start end (given (now (bytes .entry)) (now (stream .entry)))) reg offer) 1 (sigAt (now (valid .entry)) (now (word .entry))) (sigAt (now (valid .exit)) (now (word .exit))) ⌝ }
     ensures { λ _. ⌜ Sized (now (valid .exit)) (now (word .exit)) ⌝ }
 {
     let len = end - start;
     let v = blocks::cycle::source_offers(reg, len, offer);
-    let w = word_at(reg.word, start, len, stream);
+    let w = word_at(reg.word, start, len, bytes, stream);
     ports::forward::put_port(0, blocks::cycle::show(v, w), base, rows, valid, word);
 }
 
@@ -60,16 +62,18 @@ pub fn offer_sources(
     rows: &[u8; 768],
     words: &[u32; 64],
     marks: &[u8; 64],
+    bytes: &[u8],
     stream: &[u32],
+    end_bytes: &[u8],
     ends: &[u32],
     offer: u32,
     valid: &mut [bool; 128],
     word: &mut [u32; 128],
 )
     requires { ⌜ Among (now rows) 0 count (now sources) ⌝ }
-    requires { do ⌜ Fitting count (← ⟦stream.len()⟧) (now ends) ⌝ }
+    requires { ⌜ Fitting count (length (given (now bytes) (now stream))) (given (now «end_bytes») (now ends)) ⌝ }
     requires { ⌜ Sized (now valid) (now word) ⌝ }
-    ensures { λ _. ⌜ ((values : List ℕ) (ready k : ℕ) → k < count → Holds (ahead (now (rows .entry)) values (streamAt (now (rows .entry)) (now (stream .entry)) (now (ends .entry))) (maskAt (now (rows .entry)) offer ready) (regIn (now (words .entry)) (now (marks .entry))) (getD (now (sources .entry)) k 0)) (sigAt (now (valid .exit)) (now (word .exit)))) ⌝ }
+    ensures { λ _. ⌜ ((values : List ℕ) (ready k : ℕ) → k < count → Holds (ahead (now (rows .entry)) values (streamAt (now (rows .entry)) (given (now (bytes .entry)) (now (stream .entry))) (given (now («end_bytes» .entry)) (now (ends .entry)))) (maskAt (now (rows .entry)) offer ready) (regIn (now (words .entry)) (now (marks .entry))) (getD (now (sources .entry)) k 0)) (sigAt (now (valid .exit)) (now (word .exit)))) ⌝ }
     ensures { λ _. ⌜ Sized (now (valid .exit)) (now (word .exit)) ⌝ }
 {
     let mut rest = offer;
@@ -77,7 +81,7 @@ pub fn offer_sources(
     let mut k: usize = 0;
     while k < count {
         let b = sources[k] as usize;
-        let end = ends[k];
+        let end = trace::numbers::number_in(end_bytes, ends, k);
         let reg = Reg {
             word: words[b],
             marks: marks[b],
@@ -87,6 +91,7 @@ pub fn offer_sources(
             start,
             end,
             rest % 2 == 1,
+            bytes,
             stream,
             b * 12 + 2,
             rows,

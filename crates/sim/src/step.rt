@@ -118,7 +118,9 @@ fn work(
         &rear,
         rows,
         values,
+        b"",
         stream,
+        b"",
         ends,
         offer,
         ready,
@@ -166,7 +168,7 @@ fn step_accepted(
         return refused(13, state);
     }
     let sources = list_kind(0, n, &rows);
-    if !ends_fit(sources.count, stream.len(), ends) {
+    if !ends_fit(sources.count, stream.len(), b"", ends) {
         return refused(14, state);
     }
     if 1048576 <= state.count {

@@ -8,6 +8,7 @@ ghost use Rattle.blocks.specs.Folds.{one};
 ghost use Rattle.ports.specs.Places.{sigAt, readyAt, Sized};
 ghost use Rattle.passes.specs.Rows.{regIn, Rowed, Shaped, Ahead, Back, Listed};
 ghost use Rattle.passes.specs.Passed.{AllSettled};
+ghost use Rattle.trace.specs.Numbers.{given};
 ghost use Rattle.sim.specs.Ends.{streamAt, maskAt, Fitting};
 ghost use Rattle.sim.specs.Wires.{Worked, MovedIs};
 use crate::Moves;
@@ -25,7 +26,9 @@ pub fn wires<'a>(
     rear: &'a [u8; 64],
     rows: &[u8; 768],
     values: &[u32; 64],
+    bytes: &[u8],
     stream: &[u32],
+    end_bytes: &[u8],
     ends: &[u32],
     offer: u32,
     mask: u32,
@@ -39,9 +42,9 @@ pub fn wires<'a>(
     requires { ⌜ (Ahead (now rows) n (now forth)) × (Back (now rows) n (now rear)) ⌝ }
     requires { ⌜ (Listed (now rows) n 0 «source_count» (now sources)) × (Listed (now rows) n 1 «sink_count» (now sinks)) ⌝ }
     requires { ⌜ Shaped (now rows) n (now words) (now marks) ⌝ }
-    requires { do ⌜ Fitting «source_count» (← ⟦stream.len()⟧) (now ends) ⌝ }
+    requires { ⌜ Fitting «source_count» (length (given (now bytes) (now stream))) (given (now «end_bytes») (now ends)) ⌝ }
     requires { ⌜ (Sized (now valid) (now word)) × (length (now ready) ≡ 128) ⌝ }
-    ensures { λ _. ⌜ Worked (now (rows .entry)) (now (values .entry)) n (streamAt (now (rows .entry)) (now (stream .entry)) (now (ends .entry))) (maskAt (now (rows .entry)) offer mask) (regIn (now (words .entry)) (now (marks .entry))) (sigAt (now (valid .exit)) (now (word .exit))) (readyAt (now (ready .exit))) ⌝ }
+    ensures { λ _. ⌜ Worked (now (rows .entry)) (now (values .entry)) n (streamAt (now (rows .entry)) (given (now (bytes .entry)) (now (stream .entry))) (given (now («end_bytes» .entry)) (now (ends .entry)))) (maskAt (now (rows .entry)) offer mask) (regIn (now (words .entry)) (now (marks .entry))) (sigAt (now (valid .exit)) (now (word .exit))) (readyAt (now (ready .exit))) ⌝ }
     ensures { λ _. ⌜ AllSettled (now (rows .entry)) n (regIn (now (words .entry)) (now (marks .entry))) (now (valid .exit)) (now (word .exit)) ⌝ }
     ensures { λ _. ⌜ (Sized (now (valid .exit)) (now (word .exit))) × (length (now (ready .exit)) ≡ 128) ⌝ }
 {
@@ -51,7 +54,9 @@ pub fn wires<'a>(
         rows,
         words,
         marks,
+        bytes,
         stream,
+        end_bytes,
         ends,
         offer,
         valid,

@@ -1,11 +1,15 @@
 -- Laws of the numbers that bytes make: how many there are, which bytes make number i, and that each is below 2 ^ 32 where the bytes are below 256.
 -- Assumes nothing.
-use Prim.Native.Nat.{ℕ, zero, suc, _+_, _*_, _/_, _^_, _<_, _≤_}
+use Prim.Native.Nat.{ℕ, zero, suc, _+_, _-_, _*_, _/_, _^_, _<_, _≤_}
 use native.Mathlib.Omega.{arith}
-use mathlib.Core.Path.{_≡_, refl}
-use mathlib.Core.List.{List, [], _∷_}
-use lib.ListN.{length, getD}
-use Rattle.trace.specs.Numbers.{fourBytes, numbersOf}
+use mathlib.Core.Path.{_≡_, refl, sym, ap, subst, _∙_}
+use mathlib.Core.List.{List, [], _∷_, append-nil}
+use mathlib.Core.Bool.{Bool, true, false}
+use borrow.Author.Tests.{ltb-true, ltb-false}
+use lib.Dec.{ltb}
+use lib.ListN.{length, getD, length-append, List·getD-append}
+use lib.Seq.{getD-append-add}
+use Rattle.trace.specs.Numbers.{fourBytes, numbersOf, given}
 
 pub length-numbers : (l : List ℕ) → length (numbersOf l) ≡ length l / 4
 unfolding numbersOf
@@ -45,3 +49,35 @@ numbers-lt (a ∷ b ∷ c ∷ []) h i = omega arith
 numbers-lt (a ∷ b ∷ []) h i = omega arith
 numbers-lt (a ∷ []) h i = omega arith
 numbers-lt [] h i = omega arith
+
+-- ## Numbers given as bytes and then as a list
+
+module _ (bytes list : List ℕ) where
+  pub length-given : length (given bytes list) ≡ length bytes / 4 + length list
+  length-given = length-append (numbersOf bytes) list ∙ ap (λ (n : ℕ). n + length list) (length-numbers bytes)
+
+  pub given-front : (i : ℕ) → i < length bytes / 4 → getD (given bytes list) i 0 ≡ getD (numbersOf bytes) i 0
+  given-front i h = List·getD-append (numbersOf bytes) list 0 i (omega (arith, length-numbers bytes))
+
+  pub given-rest : (i : ℕ) → length bytes / 4 ≤ i → getD (given bytes list) i 0 ≡ getD list (i - length bytes / 4) 0
+  given-rest i h =
+      let n : ℕ = length (numbersOf bytes) in
+      let e : i ≡ n + (i - length bytes / 4) = omega (arith, length-numbers bytes) in
+      ap (λ (k : ℕ). getD (given bytes list) k 0) e ∙ getD-append-add (numbersOf bytes) list (i - length bytes / 4) 0
+
+  -- all of them below 2 ^ 32
+  pub given-lt : ((k : ℕ) → getD bytes k 0 < 256) → ((k : ℕ) → getD list k 0 < 2 ^ 32) → (i : ℕ) → getD (given bytes list) i 0 < 2 ^ 32
+  given-lt f g i = by (ltb i (length bytes / 4)) refl
+    where
+      by : (t : Bool) → ltb i (length bytes / 4) ≡ t → getD (given bytes list) i 0 < 2 ^ 32
+      by true e = subst (λ (x : ℕ). x < 2 ^ 32) (sym (given-front i (ltb-true i (length bytes / 4) e))) (numbers-lt bytes f i)
+      by false e = subst (λ (x : ℕ). x < 2 ^ 32) (sym (given-rest i (ltb-false i (length bytes / 4) e))) (g (i - length bytes / 4))
+
+-- no bytes
+pub given-list : (list : List ℕ) → given [] list ≡ list
+unfolding numbersOf
+given-list list = refl
+
+-- no list
+pub given-bytes : (bytes : List ℕ) → given bytes [] ≡ numbersOf bytes
+given-bytes bytes = append-nil (numbersOf bytes)

@@ -1,7 +1,7 @@
 -- Numbers in bytes (document 01, "Runs and the trace"): streams, ends and masks as bytes, 4 to a number, most significant first.
 -- Assumes nothing.
 use Prim.Native.Nat.{ℕ, _+_, _*_}
-use mathlib.Core.List.{List, [], _∷_}
+use mathlib.Core.List.{List, [], _∷_, _++_}
 
 -- the number that 4 bytes make
 abbrev pub fourBytes : ℕ → ℕ → ℕ → ℕ → ℕ
@@ -14,3 +14,7 @@ numbersOf (a ∷ b ∷ c ∷ []) = []
 numbersOf (a ∷ b ∷ []) = []
 numbersOf (a ∷ []) = []
 numbersOf [] = []
+
+-- numbers that are given as bytes and then as a list: callers give one of the two and leave the other empty
+abbrev pub given : List ℕ → List ℕ → List ℕ
+given bytes list = numbersOf bytes ++ list

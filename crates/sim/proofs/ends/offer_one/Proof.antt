@@ -1,5 +1,6 @@
 -- `sim::ends::offer_one` meets its contract: a word is offered only below the stream's length, so the one that is read is the stream's.
 -- Assumes nothing.
+use Rattle.trace.specs.Numbers.{given}
 use Rattle.sim.proofs.EndLaws.{source-word}
 use Rattle.ports.proofs.Puts.{put-as}
 use mathlib.Core.Path.{refl, _∙_}
@@ -28,10 +29,10 @@ put-port-requires c κs = search needs
 
 returns : tie.Need-returns
 returns c =
-    let a = c .before .before .before .before .before .before .before .args in (
-      put-as (λ j. portAt (a .rows .now) (a .base) (0 + j)) (λ j. portAt (a .rows .now) (a .base) (0 + j)) (λ j. c .before .before .before .show .result) (λ j. sourceOut (slice (a .start) (a .end) (a .stream .now)) (a .reg) (a .offer)) 1 _ _ (λ j h. refl)
+    let a = c .before .before .before .before .before .before .before .before .args in (
+      put-as (λ j. portAt (a .rows .now) (a .base) (0 + j)) (λ j. portAt (a .rows .now) (a .base) (0 + j)) (λ j. c .before .before .before .show .result) (λ j. sourceOut (slice (a .start) (a .end) (given (a .bytes .now) (a .stream .now))) (a .reg) (a .offer)) 1 _ _ (λ j h. refl)
           (λ j h. c .before .before .before .show .ensures
-          ∙ source-word (a .stream .now) (a .start) (a .end) (a .reg) (a .offer) (c .before .before .before .before .before .source-offers .result) (c .before .before .before .before .word-at .result) (c .before .before .before .before .before .before .before .pre .1 .1 .0) (c .before .before .before .before .before .before .before .pre .1 .1 .1) (c .before .before .before .before .before .source-offers .ensures) (c .before .before .before .before .word-at .ensures))
+          ∙ source-word (given (a .bytes .now) (a .stream .now)) (a .start) (a .end) (a .reg) (a .offer) (c .before .before .before .before .before .source-offers .result) (c .before .before .before .before .word-at .result) (c .before .before .before .before .before .before .before .before .pre .1 .1 .0) (c .before .before .before .before .before .before .before .before .pre .1 .1 .1) (c .before .before .before .before .before .source-offers .ensures) (c .before .before .before .before .word-at .ensures))
           (c .put-port .ensures .0),
       c .put-port .ensures .1,
     )
