@@ -1,0 +1,2 @@
+-- What the exports answer.
+pub mod Exports
