@@ -1,5 +1,4 @@
-// netrun: runs a stored net for 6 cycles with the words 1, 2, 3 for every source and all masks set, and prints each delivery as cycle, channel and word.
-// The form comes from the file that the first argument names, or from standard input where there is none.
+// Runs a stored net, from the file that the first argument names or from standard input, for 6 cycles over 1, 2, 3 for every source, and prints each delivery.
 ghost use mathlib.Core.Path.{_≡_};
 ghost use Prim.Native.Nat.{_*_, _≤_, _<_};
 ghost use lib.ListN.{length};
@@ -104,6 +103,10 @@ fn run_net(net: Net, start: State) {
     let mut trace = [0u8; 6144];
     let k = count_sources(net);
     let ran = runs::many::run(net, start, &words, &ends[..k], &masks, &mut trace);
+    if ran.refusal != 0 {
+        print_line(b"refused ", ran.refusal as u32);
+        return;
+    }
     print_records(&trace, ran.records as usize);
     print_line(b"end ", ran.cycles);
 }

@@ -33,6 +33,18 @@ slice-aggregate-run-4 c = search needs
 run-requires : tie.Need-run-requires
 run-requires c κs = search needs
 
+slice-aggregate-print-line : tie.Need-slice-aggregate-print-line
+slice-aggregate-print-line c = search needs
+
+cast-print-line : tie.Need-cast-print-line
+cast-print-line c = search needs
+
+print-line-requires : tie.Need-print-line-requires
+print-line-requires c κs = search needs
+
+returns : tie.Need-returns
+returns c = search needs
+
 slice-aggregate-print-records : tie.Need-slice-aggregate-print-records
 slice-aggregate-print-records c = search needs
 
@@ -41,19 +53,19 @@ cast-print-records c = search needs
 
 print-records-requires : tie.Need-print-records-requires
 print-records-requires c κs =
-    subst (λ (n : ℕ). 8 * (c .before .before .before .run .result .records) ≤ n) long (said-fit _ _ _ _ _ _ _ (c .before .before .before .run .ensures .0))
+    subst (λ (n : ℕ). 8 * (c .before .before .before .before .before .run .result .records) ≤ n) long (said-fit _ _ _ _ _ _ _ (c .before .before .before .before .before .run .ensures .0))
   where
-    long : 6144 ≡ length (c .before .before .before .run .last .1 .1 .1 .1 .1 .0)
+    long : 6144 ≡ length (c .before .before .before .before .before .run .last .1 .1 .1 .1 .1 .0)
     long = search needs
 
-slice-aggregate-print-line : tie.Need-slice-aggregate-print-line
-slice-aggregate-print-line c = search needs
+slice-aggregate-print-line-2 : tie.Need-slice-aggregate-print-line-2
+slice-aggregate-print-line-2 c = search needs
 
-print-line-requires : tie.Need-print-line-requires
-print-line-requires c κs = search needs
+print-line-requires-2 : tie.Need-print-line-requires-2
+print-line-requires-2 c κs = search needs
 
-returns : tie.Need-returns
-returns c = search needs
+returns-2 : tie.Need-returns-2
+returns-2 c = search needs
 
 pub run-net-spec : {M : Type 1} → statement M
 run-net-spec =
@@ -67,9 +79,13 @@ run-net-spec =
     slice-aggregate-run-3
     slice-aggregate-run-4
     run-requires
+    slice-aggregate-print-line
+    cast-print-line
+    print-line-requires
+    returns
     slice-aggregate-print-records
     cast-print-records
     print-records-requires
-    slice-aggregate-print-line
-    print-line-requires
-    returns)
+    slice-aggregate-print-line-2
+    print-line-requires-2
+    returns-2)
