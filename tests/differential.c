@@ -312,6 +312,27 @@ static void try_traces(void)
     }
 }
 
+// Every length from nothing to more than is needed, for runs with few records.
+static void try_every_length(void)
+{
+    static struct scene s;
+    for (unsigned i = 0; i < DAMAGES / 10; i++) {
+        struct random r = random_for(21, i);
+        struct wish wish = some_wish(&r);
+        size_t need;
+        do {
+            draw_scene(&s, &r, &wish, "traces of every length", 12);
+            need = 8 * (size_t)records_in(compare(&s.job, NULL));
+        } while (need < 32 || need > 1600);
+        for (size_t len = 0; len <= need + 8; len++) {
+            s.job.trace_len = len;
+            s.job.placing = i % 4;
+            unsigned ending = ending_in(compare(&s.job, NULL));
+            if (ending != (len < need)) fail(&s.job, "the ending does not tell whether the trace was long enough");
+        }
+    }
+}
+
 // Forms from nothing to 100,000 bytes; the longest that can be read through has 628.
 static void try_form_sizes(void)
 {
@@ -475,18 +496,19 @@ static void try_gcd(const char *folder)
 // Every example over 1, 2, 3 for each source and over random masks.
 static void try_examples(const char *folder)
 {
-    static const struct { const char *name; unsigned sources; } examples[] = {
-        {"add5.form", 1}, {"fork.form", 1}, {"gcd.form", 2}, {"shared.form", 2}, {"pipeline.form", 1}};
+    enum { EXAMPLES = 6 };
+    static const struct { const char *name; unsigned sources; } examples[EXAMPLES] = {
+        {"add5.form", 1}, {"fork.form", 1}, {"gcd.form", 2}, {"shared.form", 2}, {"pipeline.form", 1}, {"stalled.form", 2}};
     static uint8_t form[FORM_ROOM], bytes[3][8 * 64];
     static const uint32_t words[] = {1, 2, 3, 1, 2, 3}, ends[] = {3, 6};
     uint32_t masks[2 * 64];
-    for (unsigned i = 0; i < 5 * 200; i++) {
+    for (unsigned i = 0; i < EXAMPLES * 200; i++) {
         struct random r = random_for(19, i);
         struct job job = {.name = "examples", .seed = r.first, .trace_len = 8192, .placing = i % 4, .want = 0};
-        job.form = read_file(folder, examples[i % 5].name, form, sizeof form);
+        job.form = read_file(folder, examples[i % EXAMPLES].name, form, sizeof form);
         job.words = as_bytes(words, 6, bytes[0]);
-        job.ends = as_bytes(ends, examples[i % 5].sources, bytes[1]);
-        draw_masks(&r, i / 5 % MASK_WAYS, 64, masks);
+        job.ends = as_bytes(ends, examples[i % EXAMPLES].sources, bytes[1]);
+        draw_masks(&r, i / EXAMPLES % MASK_WAYS, 64, masks);
         job.masks = as_bytes(masks, 2 * 64, bytes[2]);
         compare(&job, NULL);
     }
@@ -569,6 +591,7 @@ int main(int count, char **arguments)
     try_bad_streams();
     try_good_ends();
     try_traces();
+    try_every_length();
     try_nets(nets);
     try_cycle_limit();
     try_threads();

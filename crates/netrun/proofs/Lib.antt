@@ -1,0 +1,2 @@
+-- A law of runs that printing needs.
+pub mod Room
