@@ -2,16 +2,16 @@
 -- so there is no loop without a buffer; and where blocks are left that cannot be placed, there is one.
 -- Assumes nothing.
 use mathlib.Core.Path.{_≡_, refl, sym, _∙_, subst, ap, ap₂}
-use mathlib.Core.Bool.{Bool, true, false, not, _||_}
+use mathlib.Core.Bool.{Bool, true, false, not, _&&_, _||_}
 use mathlib.Core.List.{List}
 use mathlib.Core.Logic.{_⊎_, inl, inr}
 use Prim.Native.Nat.{ℕ, _+_, _-_, _≤_, _<_}
 use native.Mathlib.Decide.{ℕ-discrete}
 use native.Mathlib.Omega.{arith}
-use lib.Dec.{eqb}
+use lib.Dec.{eqb, leb}
 use lib.ListN.{getD, set, replicate, getD-replicate, length-replicate, length-set}
 use lib.Seq.{getD-set-same, getD-set-other}
-use borrow.Author.Tests.{eq-eqb, ne-eqb, eqb-true, eqb-false, not-true, not-false}
+use borrow.Author.Tests.{eq-eqb, ne-eqb, eqb-true, eqb-false, le-leb, not-true, not-false}
 use Rattle.loops.proofs.Cycle.{no-loop, has-loop}
 use Rattle.blocks.specs.Folds.{allBelow, countBelow}
 use Rattle.blocks.proofs.Folds.{clash, and-1, and-2, all-none, all-more, all-at, all-fails, all-less, fails-at, count-step, count-some, count-all, count-zero, count-drop}
@@ -20,7 +20,7 @@ use Rattle.nets.specs.Net.{blockAt, fieldsOk}
 use Rattle.nets.specs.Loops.{HasPort, Leads, FreeLoop, isBuffer}
 use Rattle.nets.specs.Promises.{TheBlock, Table, cuts, InOrder}
 use Rattle.nets.specs.Rows.{rowIns, rowPort, Rows}
-use Rattle.nets.specs.Order.{feeder, unplaced, cutAt, fedAt, mayPlace, nextAt, passedAt, Feeds, After, Progress, Stepped, Swept, Whole, Halted, Ordered}
+use Rattle.nets.specs.Order.{feeder, unplaced, cutAt, fedAt, mayPlace, nextAt, passedAt, Feeds, After, Judged, Progress, Stepped, Swept, Whole, Halted, Ordered}
 use Rattle.nets.specs.declared.Net.{Net}
 use Rattle.nets.proofs.Blocks.{ins-small, input-side, side-input, port-small}
 use Rattle.nets.proofs.Nets.{channels-high, block-in}
@@ -47,26 +47,45 @@ pub between : (control : Bool) (a b c : ℕ) → cuts control b c ≡ false → 
 between true a b c e f = e
 between false a b c e f = f
 
-module _ (control : Bool) (rows producer places : List ℕ) (b : ℕ) where
-  pub place-fails : (j : ℕ) → j < rowIns rows b → fedAt control rows producer places b j ≡ false → mayPlace control rows producer places b ≡ false
+-- what is fed within the limit is fed, and what is not is not where its producer's place is within the limit
+within-yes : (cut within placed : Bool) → (cut || (within && placed)) ≡ true → (cut || placed) ≡ true
+within-yes true within placed e = refl
+within-yes false within placed e = and-2 within placed e
+
+within-no : (cut within placed : Bool) → within ≡ true → (cut || (within && placed)) ≡ false → (cut || placed) ≡ false
+within-no cut within placed w e = rw w at e
+
+module _ (control : Bool) (rows producer : List ℕ) (limit b : ℕ) (places : List ℕ) where
+  -- nothing passes at input j, or it is fed by a block that is placed within the limit
+  abbrev pub within : ℕ → Bool
+  within j = cutAt control rows producer b j || (leb (getD places (feeder rows producer b j) 0) limit && not (unplaced places (feeder rows producer b j)))
+
+  pub within-fed : (j : ℕ) → within j ≡ true → fedAt control rows producer places b j ≡ true
+  within-fed j e =
+      within-yes (cutAt control rows producer b j) (leb (getD places (feeder rows producer b j) 0) limit) (not (unplaced places (feeder rows producer b j))) e
+
+  -- the answers whether b may be placed
+  pub judged-no : (j : ℕ) → j < rowIns rows b → within j ≡ false → Judged control rows producer limit b places false
   unfolding mayPlace
-  place-fails j h z = all-fails (fedAt control rows producer places b) (rowIns rows b) j h z
+  judged-no j h e =
+      record {
+        yes = λ t. clash t refl;
+        no = λ f low.
+            all-fails (fedAt control rows producer places b) (rowIns rows b) j h
+            (within-no (cutAt control rows producer b j) (leb (getD places (feeder rows producer b j) 0) limit) (not (unplaced places (feeder rows producer b j)))
+            (le-leb (getD places (feeder rows producer b j) 0) limit (low j h)) e);
+      }
 
-  pub place-all : (j : ℕ) → rowIns rows b ≤ j → allBelow (fedAt control rows producer places b) j ≡ true → mayPlace control rows producer places b ≡ true
+  pub judged-yes : (j : ℕ) → rowIns rows b ≤ j → allBelow (fedAt control rows producer places b) j ≡ true → Judged control rows producer limit b places true
   unfolding mayPlace
-  place-all j h a = all-less (fedAt control rows producer places b) j (rowIns rows b) h a
+  judged-yes j h a = record { yes = λ t. all-less (fedAt control rows producer places b) j (rowIns rows b) h a; no = λ f low. clash refl f }
 
-  -- by the answer of the test whether b may be placed
-  pub next-yes : (may : Bool) → getD places b 0 ≡ 0 → may ≡ mayPlace control rows producer places b → may ≡ true → nextAt control rows producer places b ≡ true
-  next-yes may z m t = rw (eq-eqb (getD places b 0) 0 z) (sym m ∙ t)
+  module _ (may : Bool) (z : getD places b 0 ≡ 0) (m : Judged control rows producer limit b places may) where
+    pub next-yes : may ≡ true → nextAt control rows producer places b ≡ true
+    next-yes t = rw (eq-eqb (getD places b 0) 0 z) (m .yes t)
 
-  pub passed-placed : (getD places b 0 ≡ 0 → ⊥) → passedAt control rows producer places b ≡ true
-  passed-placed n = rw (ne-eqb (getD places b 0) 0 n)
-
-  pub passed-waits : (may : Bool) → getD places b 0 ≡ 0 → may ≡ mayPlace control rows producer places b → may ≡ false → passedAt control rows producer places b ≡ true
-  passed-waits may z m t =
-      let n : mayPlace control rows producer places b ≡ false = sym m ∙ t in
-      rw (eq-eqb (getD places b 0) 0 z, n)
+    passed-waits : may ≡ false → ((j : ℕ) → j < rowIns rows b → getD places (feeder rows producer b j) 0 ≤ limit) → passedAt control rows producer places b ≡ true
+    passed-waits f low = rw (eq-eqb (getD places b 0) 0 z, m .no f low)
 
 pub feeds-more : (rows producer : List ℕ) (size n b : ℕ) → size ≤ n → Feeds rows producer size b → Feeds rows producer n b
 feeds-more rows producer size n b h f =
@@ -201,14 +220,28 @@ module _ (control : Bool) (rows producer : List ℕ) (size : ℕ) where
         }
 
   -- the ways of one block
-  pub stepped-place : (count b : ℕ) (blocks places : List ℕ) → size ≤ 64 → b < size → Feeds rows producer size b → Progress control rows producer size count blocks places
-      → nextAt control rows producer places b ≡ true
-      → Stepped control rows producer size count b (count + 1) (set blocks count b) places (set places b (count + 1))
-  stepped-place count b blocks places s h f p n = record { progress = progress-step count blocks places p s b h n f; either = inl refl }
+  module _ (limit count b : ℕ) (blocks places : List ℕ) (p : Progress control rows producer size count blocks places) where
+    pub stepped-place : size ≤ 64 → b < size → Feeds rows producer size b → nextAt control rows producer places b ≡ true
+        → Stepped control rows producer size limit count b (count + 1) (set blocks count b) places (set places b (count + 1))
+    stepped-place s h f n = record { progress = progress-step count blocks places p s b h n f; either = inl refl }
 
-  pub stepped-pass : (count b : ℕ) (blocks places : List ℕ) → Progress control rows producer size count blocks places
-      → passedAt control rows producer places b ≡ true → Stepped control rows producer size count b count blocks places places
-  stepped-pass count b blocks places p e = record { progress = p; either = inr (refl, refl, e) }
+    pub stepped-placed : (getD places b 0 ≡ 0 → ⊥) → Stepped control rows producer size limit count b count blocks places places
+    stepped-placed n = record { progress = p; either = inr (refl, refl, λ l. rw (ne-eqb (getD places b 0) 0 n)) }
+
+    -- what is placed is within the count, so within the limit where the count is
+    pub stepped-waits : (may : Bool) → Feeds rows producer size b → getD places b 0 ≡ 0 → Judged control rows producer limit b places may → may ≡ false
+        → Stepped control rows producer size limit count b count blocks places places
+    stepped-waits may f z m e =
+        record {
+          progress = p;
+          either =
+              inr (
+                refl,
+                refl,
+                λ l.
+                    passed-waits control rows producer limit b places may z m e (λ j q. omega (arith, l, p .bounded (feeder rows producer b j) (f .feeder-low j q))),
+              );
+        }
 
   -- a sweep so far: the blocks before b are passed, if nothing was placed
   pub record Sweeping (count placed b : ℕ) (blocks places : List ℕ) : Type 0 where
@@ -220,10 +253,10 @@ module _ (control : Bool) (rows producer : List ℕ) (size : ℕ) where
   sweeping-start count blocks places p = record { progress = p; grown = omega arith; passed = λ e. all-none (passedAt control rows producer places) }
 
   pub sweeping-step : (count placed next b : ℕ) (olds blocks old places : List ℕ) → Sweeping count placed b olds old
-      → Stepped control rows producer size placed b next blocks old places → Sweeping count next (b + 1) blocks places
+      → Stepped control rows producer size count placed b next blocks old places → Sweeping count next (b + 1) blocks places
   sweeping-step count placed next b olds blocks old places s t = go (t .either)
     where
-      go : (next ≡ placed + 1) ⊎ ((next ≡ placed) × (places ≡ old) × (passedAt control rows producer old b ≡ true)) → Sweeping count next (b + 1) blocks places
+      go : (next ≡ placed + 1) ⊎ ((next ≡ placed) × (places ≡ old) × (placed ≤ count → passedAt control rows producer old b ≡ true)) → Sweeping count next (b + 1) blocks places
       go (inl e) = record { progress = t .progress; grown = omega (arith, s .grown); passed = λ f. absurd (never f) }
         where
           never : next ≡ count → ⊥
@@ -234,7 +267,7 @@ module _ (control : Bool) (rows producer : List ℕ) (size : ℕ) where
             grown = omega (arith, s .grown, w .0);
             passed = λ f.
                 subst (λ (l : List ℕ). allBelow (passedAt control rows producer l) (b + 1) ≡ true) (sym (w .1))
-                (all-more (passedAt control rows producer old) b (s .passed (sym (w .0) ∙ f)) (w .2));
+                (all-more (passedAt control rows producer old) b (s .passed (sym (w .0) ∙ f)) (w .2 (omega (arith, w .0, f))));
           }
 
   pub sweeping-end : (count placed b : ℕ) (blocks places : List ℕ) → size ≤ b → Sweeping count placed b blocks places → Swept control rows producer size count placed blocks places

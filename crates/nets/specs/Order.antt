@@ -59,10 +59,15 @@ pub record Progress (control : Bool) (rows producer : List ℕ) (size count : �
   pub listed : (k : ℕ) → k < count → (getD blocks k 0 < size) × (getD places (getD blocks k 0) 0 ≡ k + 1)
   pub stands : (i : ℕ) → i < size → (getD places i 0 ≡ 0 → ⊥) → getD blocks (getD places i 0 - 1) 0 ≡ i
 
--- block b is placed, or it is passed: it has a place already, or it has an input that is not fed
-pub record Stepped (control : Bool) (rows producer : List ℕ) (size count b next : ℕ) (blocks old places : List ℕ) : Type 0 where
+-- the answer whether block b may be placed: a yes is right, and a no is right where no producer has a place beyond the limit
+pub record Judged (control : Bool) (rows producer : List ℕ) (limit b : ℕ) (places : List ℕ) (may : Bool) : Type 0 where
+  pub yes : may ≡ true → mayPlace control rows producer places b ≡ true
+  pub no : may ≡ false → ((j : ℕ) → j < rowIns rows b → getD places (feeder rows producer b j) 0 ≤ limit) → mayPlace control rows producer places b ≡ false
+
+-- block b is placed, or it is passed, where no place is beyond the limit: it has a place already, or it has an input that is not fed
+pub record Stepped (control : Bool) (rows producer : List ℕ) (size limit count b next : ℕ) (blocks old places : List ℕ) : Type 0 where
   pub progress : Progress control rows producer size next blocks places
-  pub either : (next ≡ count + 1) ⊎ ((next ≡ count) × (places ≡ old) × (passedAt control rows producer old b ≡ true))
+  pub either : (next ≡ count + 1) ⊎ ((next ≡ count) × (places ≡ old) × (count ≤ limit → passedAt control rows producer old b ≡ true))
 
 -- no block that is left can be placed
 abbrev pub Stuck : Bool → List ℕ → List ℕ → ℕ → List ℕ → Type 0

@@ -1,11 +1,11 @@
-// Orders of the blocks, found by sweeps: each places the blocks whose inputs are fed by blocks that are placed.
+// Orders of the blocks, layer by layer: a sweep places the blocks whose inputs are fed by blocks that were placed before the sweep began.
 ghost use mathlib.Core.Path.{_≡_};
-ghost use mathlib.Core.Bool.{not, _||_};
+ghost use mathlib.Core.Bool.{not, _&&_, _||_};
 ghost use Prim.Native.Nat.{ℕ, _≤_, _<_};
-ghost use lib.Dec.{eqb};
+ghost use lib.Dec.{eqb, leb};
 ghost use Rattle.nets.specs.Loops.{isBuffer};
 ghost use Rattle.nets.specs.Promises.{cuts};
-ghost use Rattle.nets.specs.Order.{mayPlace, Feeds, Progress, Stepped, Swept, Ordered};
+ghost use Rattle.nets.specs.Order.{Feeds, Judged, Progress, Stepped, Swept, Ordered};
 use crate::Order;
 
 // A control buffer, or a data buffer.
@@ -31,16 +31,23 @@ fn cut(control: bool, a: u8, b: u8) -> bool
     is_buffer(false, b)
 }
 
-// An input is fed where it is cut, or where its producer has a place.
-fn fed(place: u8, free: bool) -> bool
-    ensures { λ r. ⌜ r ≡ (free || not (eqb place 0)) ⌝ }
+// An input is fed where it is cut, or where its producer has a place that is at most the limit.
+fn fed(place: u8, limit: u8, free: bool) -> bool
+    ensures { λ r. ⌜ r ≡ (free || (leb place limit && not (eqb place 0))) ⌝ }
 {
-    if free { true } else { place != 0 }
+    if free {
+        return true;
+    }
+    if place <= limit {
+        return place != 0;
+    }
+    false
 }
 
-// Every input of block b is fed.
+// Every input of block b is fed within the limit.
 fn may_place(
     control: bool,
+    limit: u8,
     b: usize,
     rows: &[u8; 832],
     producer: &[u8; 128],
@@ -48,7 +55,7 @@ fn may_place(
 ) -> bool
     requires { ⌜ b < 64 ⌝ }
     requires { ⌜ Feeds (now rows) (now producer) 64 b ⌝ }
-    ensures { λ r. ⌜ r ≡ mayPlace control (now (rows .entry)) (now (producer .entry)) (now (places .entry)) b ⌝ }
+    ensures { λ r. ⌜ Judged control (now (rows .entry)) (now (producer .entry)) limit b (now (places .entry)) r ⌝ }
 {
     let base = b * 13;
     let kind = rows[base];
@@ -57,7 +64,7 @@ fn may_place(
     while j < n {
         let c = rows[base + 3 + j] as usize;
         let a = producer[c] as usize;
-        if !fed(places[a], cut(control, rows[a * 13], kind)) {
+        if !fed(places[a], limit, cut(control, rows[a * 13], kind)) {
             return false;
         }
         j += 1;
@@ -65,9 +72,10 @@ fn may_place(
     true
 }
 
-// Places block b next if it has no place yet and every input is fed. Returns how many blocks are placed.
+// Places block b next if it has no place yet and every input is fed within the limit. Returns how many blocks are placed.
 fn place_block(
     control: bool,
+    limit: u8,
     size: usize,
     count: usize,
     b: usize,
@@ -80,12 +88,12 @@ fn place_block(
     requires { ⌜ b < size ⌝ }
     requires { ⌜ Feeds (now rows) (now producer) size b ⌝ }
     requires { ⌜ Progress control (now rows) (now producer) size count (now blocks) (now places) ⌝ }
-    ensures { λ r. ⌜ Stepped control (now (rows .entry)) (now (producer .entry)) size count b r (now (blocks .exit)) (now (places .entry)) (now (places .exit)) ⌝ }
+    ensures { λ r. ⌜ Stepped control (now (rows .entry)) (now (producer .entry)) size limit count b r (now (blocks .exit)) (now (places .entry)) (now (places .exit)) ⌝ }
 {
     if places[b] != 0 {
         return count;
     }
-    if !may_place(control, b, rows, producer, places) {
+    if !may_place(control, limit, b, rows, producer, places) {
         return count;
     }
     blocks[count] = b as u8;
@@ -93,7 +101,7 @@ fn place_block(
     count + 1
 }
 
-// One sweep over the blocks, which places each that can be. Returns how many are placed.
+// One sweep over the blocks, which places one layer: a step that comes to a block need not wait for its producers. Returns how many are placed.
 fn sweep(
     control: bool,
     size: usize,
@@ -111,7 +119,17 @@ fn sweep(
     let mut placed = count;
     let mut b: usize = 0;
     while b < size {
-        placed = place_block(control, size, placed, b, rows, producer, blocks, places);
+        placed = place_block(
+            control,
+            count as u8,
+            size,
+            placed,
+            b,
+            rows,
+            producer,
+            blocks,
+            places,
+        );
         b += 1;
     }
     placed

@@ -1,9 +1,11 @@
 -- `nets::placing::may_place` meets its contract. The loop's invariant: the inputs before `j` are fed; the measure is what is left of the inputs.
 -- Assumes nothing.
 use mathlib.Core.Path.{_≡_, sym, ap, _∙_}
-use mathlib.Core.Bool.{Bool, true, not, _||_}
+use mathlib.Core.Bool.{Bool, true, not, _&&_, _||_}
 use Prim.Native.Nat.{_<_, _-_}
 use native.Mathlib.Omega.{arith}
+use lib.Dec.{leb}
+use lib.ListN.{getD}
 use denote.Ref.{now}
 use borrow.Author.Needs.{needs}
 use borrow.Author.Tests.{not-true, not-false}
@@ -11,15 +13,15 @@ use Rattle.blocks.specs.Folds.{allBelow}
 use Rattle.blocks.proofs.Folds.{all-none, all-more}
 use Rattle.nets.specs.Rows.{rowPort}
 use Rattle.nets.specs.Order.{feeder, unplaced, fedAt}
-use Rattle.nets.proofs.Orders.{place-fails, place-all}
+use Rattle.nets.proofs.Orders.{within, within-fed, judged-no, judged-yes}
 use Rattle.nets.proofs.placing.may_place.Statement.{statement}
 use Rattle.nets.proofs.placing.may_place.Tie as tie
 
 abbrev Inv-loop : tie.InvT-loop
-Inv-loop control b rows producer places base kind n j₀ j = allBelow (fedAt control rows producer places b) j ≡ true
+Inv-loop control limit b rows producer places base kind n j₀ j = allBelow (fedAt control rows producer places b) j ≡ true
 
 abbrev μ-loop : tie.MeasureT-loop
-μ-loop control b rows producer places base kind n j₀ j = n - j
+μ-loop control limit b rows producer places base kind n j₀ j = n - j
 
 mul-base : tie.Need-mul-base Inv-loop μ-loop
 mul-base c = omega arith
@@ -49,19 +51,22 @@ feeds c =
     let f = c .before .before .before .before .pre .1 in
     (omega (arith, f .few), f .channel-low (c .before .loop .j) (c .loop-test .taken), f .feeder-low (c .before .loop .j) (c .loop-test .taken))
 
--- and whether it is fed
+-- and whether it is fed within the limit
 fed-is : (c : tie.After-fed Inv-loop μ-loop)
     → c .fed .result
-    ≡ fedAt (c .before .before .before .before .before .before .before .before .before .before .args .control)
+    ≡ within (c .before .before .before .before .before .before .before .before .before .before .args .control)
     (now (c .before .before .before .before .before .before .before .before .before .before .args .rows))
     (now (c .before .before .before .before .before .before .before .before .before .before .args .producer))
-    (now (c .before .before .before .before .before .before .before .before .before .before .args .places))
+    (c .before .before .before .before .before .before .before .before .before .before .args .limit)
     (c .before .before .before .before .before .before .before .before .before .before .args .b)
+    (now (c .before .before .before .before .before .before .before .before .before .before .args .places))
     (c .before .before .before .before .before .before .before .loop .j)
 fed-is c =
     let a = c .before .before .before .before .before .before .before .before .before .before .args in
     let j = c .before .before .before .before .before .before .before .loop .j in
-    c .fed .ensures ∙ ap (λ (t : Bool). t || not (unplaced (now (a .places)) (feeder (now (a .rows)) (now (a .producer)) (a .b) j))) (c .before .cut .ensures)
+    let from = feeder (now (a .rows)) (now (a .producer)) (a .b) j in
+    c .fed .ensures
+    ∙ ap (λ (t : Bool). t || (leb (getD (now (a .places)) from 0) (a .limit) && not (unplaced (now (a .places)) from))) (c .before .cut .ensures)
 
 add-c : tie.Need-add-c Inv-loop μ-loop
 add-c c = omega (arith, feeds c)
@@ -99,7 +104,7 @@ fed-requires c κs = search needs
 returns : tie.Need-returns Inv-loop μ-loop
 returns c =
     let l = c .before .before .before .before .before .before .before .before in
-    sym (place-fails _ _ _ _ _ (l .loop .j) (c .before .before .before .before .before .before .before .loop-test .taken) (sym (fed-is (c .before)) ∙ search (not-true)))
+    judged-no _ _ _ _ _ _ (l .loop .j) (c .before .before .before .before .before .before .before .loop-test .taken) (sym (fed-is (c .before)) ∙ search (not-true))
 
 add-j : tie.Need-add-j Inv-loop μ-loop
 add-j c = omega (arith, feeds (c .before .before .before .before .before .before .before))
@@ -110,12 +115,14 @@ loop-less c = search needs
 loop-again : tie.Need-loop-again Inv-loop μ-loop
 loop-again c =
     let l = c .before .before .before .before .before .before .before .before in
-    all-more _ (l .loop .j) (l .loop .inv) (sym (fed-is (c .before)) ∙ search (not-false))
+    let a = l .before .before .before .args in
+    all-more _ (l .loop .j) (l .loop .inv)
+    (within-fed (a .control) (now (a .rows)) (now (a .producer)) (a .limit) (a .b) (now (a .places)) (l .loop .j) (sym (fed-is (c .before)) ∙ search (not-false)))
 
 returns-2 : tie.Need-returns-2 Inv-loop μ-loop
 returns-2 c =
     let l = c .before in
-    sym (place-all _ _ _ _ _ (l .loop .j) (c .loop-test .left) (l .loop .inv))
+    judged-yes _ _ _ _ _ _ (l .loop .j) (c .loop-test .left) (l .loop .inv)
 
 pub may-place-spec : {M : Type 1} → statement M
 may-place-spec =

@@ -8,7 +8,7 @@ use denote.Ref.{now}
 use borrow.Author.Needs.{needs}
 use borrow.Author.Tests.{not-true, not-false}
 use Rattle.nets.specs.Order.{nextAt}
-use Rattle.nets.proofs.Orders.{feeds-more, next-yes, passed-placed, passed-waits, stepped-place, stepped-pass, room}
+use Rattle.nets.proofs.Orders.{feeds-more, next-yes, stepped-place, stepped-placed, stepped-waits, room}
 use Rattle.nets.proofs.placing.place_block.Statement.{statement}
 use Rattle.nets.proofs.placing.place_block.Tie as tie
 
@@ -18,8 +18,7 @@ element-copy-out-if1 c = search needs
 returns : tie.Need-returns
 returns c =
     let s = c .before .before in
-    let a = s .args in
-    stepped-pass _ _ _ _ _ _ _ _ (s .pre .1 .1 .1) (passed-placed (a .control) (now (a .rows)) (now (a .producer)) (now (a .places)) (a .b) (c .if1 .taken))
+    stepped-placed _ _ _ _ _ _ _ _ _ (s .pre .1 .1 .1) (c .if1 .taken)
 
 may-place-requires : tie.Need-may-place-requires
 may-place-requires c κs =
@@ -29,10 +28,7 @@ may-place-requires c κs =
 returns-2 : tie.Need-returns-2
 returns-2 c =
     let s = c .before .before .before .before .before in
-    let a = s .args in
-    stepped-pass _ _ _ _ _ _ _ _ (s .pre .1 .1 .1)
-    (passed-waits (a .control) (now (a .rows)) (now (a .producer)) (now (a .places)) (a .b) _ (c .before .before .before .if1 .left)
-    (c .before .may-place .ensures) (search (not-true)))
+    stepped-waits _ _ _ _ _ _ _ _ _ (s .pre .1 .1 .1) _ (s .pre .1 .1 .0) (c .before .before .before .if1 .left) (c .before .may-place .ensures) (search (not-true))
 
 -- the block can be placed
 next : (c : tie.Else2)
@@ -41,7 +37,7 @@ next : (c : tie.Else2)
     (c .before .before .before .before .before .args .b) ≡ true
 next c =
     let a = c .before .before .before .before .before .args in
-    next-yes (a .control) (now (a .rows)) (now (a .producer)) (now (a .places)) (a .b) _ (c .before .before .before .if1 .left)
+    next-yes (a .control) (now (a .rows)) (now (a .producer)) (a .limit) (a .b) (now (a .places)) _ (c .before .before .before .if1 .left)
     (c .before .may-place .ensures) (search (not-false))
 
 -- and there is room for it
@@ -72,7 +68,7 @@ add-result c = omega (arith, has-room c)
 returns-3 : tie.Need-returns-3
 returns-3 c =
     let s = c .before .before .before .before .before in
-    stepped-place _ _ _ _ _ _ _ _ (s .pre .0) (s .pre .1 .0) (s .pre .1 .1 .0) (s .pre .1 .1 .1) (next c)
+    stepped-place _ _ _ _ _ _ _ _ _ (s .pre .1 .1 .1) (s .pre .0) (s .pre .1 .0) (s .pre .1 .1 .0) (next c)
 
 pub place-block-spec : {M : Type 1} → statement M
 place-block-spec =

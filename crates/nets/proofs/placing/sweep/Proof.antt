@@ -16,6 +16,9 @@ abbrev μ-loop : tie.MeasureT-loop
 loop-holds : tie.Need-loop-holds Inv-loop μ-loop
 loop-holds c = sweeping-start _ _ _ _ _ _ _ (c .pre .1 .1)
 
+cast-place-block : tie.Need-cast-place-block Inv-loop μ-loop
+cast-place-block c = omega (arith, c .before .before .pre .1 .1 .total)
+
 place-block-requires : tie.Need-place-block-requires Inv-loop μ-loop
 place-block-requires c κs =
     let l = c .before .before .before in
@@ -39,4 +42,4 @@ returns c = sweeping-end _ _ _ _ _ _ (c .before .loop .b) _ _ (c .loop-test .lef
 pub sweep-spec : {M : Type 1} → statement M
 sweep-spec =
     tie.close
-    (tie.spec Inv-loop μ-loop loop-holds place-block-requires add-b loop-less loop-again returns)
+    (tie.spec Inv-loop μ-loop loop-holds cast-place-block place-block-requires add-b loop-less loop-again returns)
