@@ -92,6 +92,20 @@ module _ (f : ℕ → Bool) where
           deeper (inl r) k = clash (and-both (allBelow f n) (f n) r q) p
           deeper (inr r) k = (k r .0, omega (arith, k r .1), k r .2)
 
+  -- what holds besides, and the test at one number more
+  pub all-besides : (v : Bool) → v ≡ (v && allBelow f 0)
+  unfolding allBelow
+  all-besides true = refl
+  all-besides false = refl
+
+  pub all-besides-more : (v go t : Bool) (i : ℕ) → go ≡ (v && allBelow f i) → t ≡ f i → (go && t) ≡ (v && allBelow f (i + 1))
+  unfolding allBelow
+  all-besides-more v go t i p q = rw (add-one, p, q) (by v)
+    where
+      by : (v : Bool) → (v && allBelow f i && f i) ≡ (v && (allBelow f i && f i))
+      by true = refl
+      by false = refl
+
 -- two tests that agree below n
 pub all-same : (f g : ℕ → Bool) (n : ℕ) → ((i : ℕ) → i < n → f i ≡ g i) → allBelow f n ≡ allBelow g n
 unfolding allBelow

@@ -1,6 +1,6 @@
 // The equations of one block in one cycle, as functions of values. Loops over ports stand where a port's place is known, with one of these per port.
 ghost use mathlib.Core.Path.{_≡_};
-ghost use mathlib.Core.Bool.{Bool, true, false, not, _&&_};
+ghost use mathlib.Core.Bool.{Bool, true, false, not, _&&_, _||_};
 ghost use Prim.Native.Nat.{ℕ, _+_, _*_, _≤_, _<_, _^_};
 ghost use lib.Dec.{eqb};
 ghost use mathlib.Core.List.{List};
@@ -111,6 +111,13 @@ pub fn fork_ready(n: u8, v: bool, gone: u8) -> bool
     ensures { λ r. ⌜ ((marks : ℕ) (d : ℕ → Bool) → gone ≡ gained n marks d → r ≡ forkReady n marks v d) ⌝ }
 {
     both(v, gone == all_copies(n))
+}
+
+// Whether a copy that is valid or not, v, and ready or not, y, does not hinder its fork: it does while it is offered and not taken.
+pub fn copy_done(v: bool, y: bool) -> bool
+    ensures { λ r. ⌜ r ≡ (not v || y) ⌝ }
+{
+    if v { y } else { true }
 }
 
 pub fn fork_next(taken: bool, gone: u8) -> u8

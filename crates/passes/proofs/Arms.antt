@@ -1,11 +1,11 @@
 -- One block in a pass, by its kind's number: each arm of the code's `match` at the kind that it found.
 -- Assumes nothing.
 use mathlib.Core.Path.{_≡_, refl, sym, ap, subst, _∙_}
-use mathlib.Core.Bool.{Bool, true, false, cond, _&&_}
+use mathlib.Core.Bool.{Bool, true, false, cond, _&&_, _||_}
 use mathlib.Core.List.{List, []}
 use Prim.Native.Nat.{ℕ, zero, suc, _+_, _-_, _^_, _≤_, _<_}
 use native.Mathlib.Omega.{arith}
-use borrow.Author.Tests.{eqb-true, leb-true, ltb-true}
+use borrow.Author.Tests.{eqb-true, leb-true, ltb-true, ne-eqb}
 use lib.Dec.{eqb, leb, ltb}
 use lib.ListN.{length, set}
 use lib.Seq.{getD-set-same, getD-set-other}
@@ -20,7 +20,7 @@ use Rattle.cycles.proofs.Numbers.{by-kind, no-kind}
 use Rattle.ports.specs.Places.{portAt, Apart, Put}
 use Rattle.ports.specs.Worked.{nextHere}
 use Rattle.ports.proofs.Puts.{put-none}
-use Rattle.passes.specs.Rows.{regIn}
+use Rattle.passes.specs.Rows.{regIn, restsAhead, restsBack}
 use Rattle.passes.specs.Pass.{Turned}
 use Rattle.passes.specs.Passed.{aheadAt, backAt}
 
@@ -34,6 +34,10 @@ m-small k m e = go (leb k 1) (leb k 3) (leb k 7) (leb k 10) e
     go false true c d h = omega (arith, leb-true m 3 h)
     go false false true d h = leb-true m 8 (and-2 (leb 2 m) (leb m 8) h)
     go false false false d h = omega (arith, eqb-true m 0 (and-2 d (eqb m 0) h))
+
+-- forks, muxes, demuxes and merges have an m of at least 2: at one of their numbers k the rule of m reads so
+pub m-two : (k kind m : ℕ) → kind ≡ k → mOk k m ≡ (leb 2 m && leb m 8) → mOk kind m ≡ true → 2 ≤ m
+m-two k kind m e rule h = leb-true 2 m (and-1 (leb 2 m) (leb m 8) (sym rule ∙ subst (λ (x : ℕ). mOk x m ≡ true) e h))
 
 -- the registers of a merge: a winner of at most m, and marks below 4
 pub merge-fits : (k m : ℕ) (r : Reg) → k ≡ 7 → inShape (kindOf k m 0 []) r ≡ true → (r .word ≤ m) × (r .marks < 4)
@@ -51,6 +55,18 @@ fork-fits k m r e s =
     let l : r .marks < 2 ^ m - 1 = ltb-true (r .marks) (2 ^ m - 1) (and-2 (eqb (r .word) 0) (ltb (r .marks) (2 ^ m - 1)) t) in
     omega arith
 
+-- ## Blocks that do not rest
+
+or-first : (a b : Bool) → (a || b) ≡ false → a ≡ false
+or-first true b e = e
+or-first false b e = refl
+
+pub turns-back : (k : ℕ) → restsBack k ≡ false → leb k 1 ≡ false
+turns-back k e = or-first (leb k 1) (eqb k 10) e
+
+pub turns-on : (k : ℕ) → restsAhead k ≡ false → eqb k 0 ≡ false
+turns-on k e = ne-eqb k 0 (λ z. clash (subst (λ (x : ℕ). leb x 1 ≡ true) (sym z) refl) (or-first (leb k 1) (eqb k 8 || eqb k 9) e))
+
 -- ## The arms
 
 module _ (k kind m value : ℕ) (e : kind ≡ k) (rows : List ℕ) (base : ℕ) (mask : Bool) (r : Reg) (xs : List ℕ) where
@@ -67,6 +83,22 @@ module _ (k kind m value : ℕ) (e : kind ≡ k) (rows : List ℕ) (base : ℕ) 
       → Turned (backAt kind m rows base (kindOf kind m value xs) mask r X) (leb kind 1) f g
   back-arm X f g z p =
       subst (λ (x : ℕ). Turned (backAt x m rows base (kindOf x m value xs) mask r X) (leb x 1) f g) (sym e) (record { works = λ s. p; rests = λ s. clash s z })
+
+  -- a block that was worked out by the number of its kind
+  pub ahead-same : (f g : ℕ → Sig) → eqb k 0 ≡ false → Turned (aheadAt k m rows base (kindOf k m value xs) mask r) (eqb k 0) f g
+      → Put (λ j. portAt rows base (inputsOf kind m + j)) (outOf (kindOf kind m value xs) mask r (λ p. f (portAt rows base p))) (outputsOf kind m) f g
+  ahead-same f g z t =
+      subst (λ (x : ℕ). Put (λ j. portAt rows base (inputsOf x m + j)) (outOf (kindOf x m value xs) mask r (λ p. f (portAt rows base p))) (outputsOf x m) f g) (sym e) (t .works z)
+
+  pub back-same : (X : ℕ → Sig) (f g : ℕ → Bool) → leb k 1 ≡ false → Turned (backAt k m rows base (kindOf k m value xs) mask r X) (leb k 1) f g
+      → Put (portAt rows base)
+      (readyOf (kindOf kind m value xs) mask r (λ i. X (portAt rows base i)) (λ j. X (portAt rows base (inputsOf kind m + j)) .valid)
+      (λ j. f (portAt rows base (inputsOf kind m + j)))) (inputsOf kind m) f g
+  back-same X f g z t =
+      subst (λ (x : ℕ).
+      Put (portAt rows base)
+      (readyOf (kindOf x m value xs) mask r (λ i. X (portAt rows base i)) (λ j. X (portAt rows base (inputsOf x m + j)) .valid)
+      (λ j. f (portAt rows base (inputsOf x m + j)))) (inputsOf x m) f g) (sym e) (t .works z)
 
 -- the ports of a kind are apart, at the kind that was found
 pub apart-outs : (k kind m : ℕ) → kind ≡ k → (rows : List ℕ) (base : ℕ) → Apart (λ j. portAt rows base (inputsOf kind m + j)) (outputsOf kind m)

@@ -21,7 +21,7 @@ Holds s f = (o : ℕ) → o < s .puts → f (s .to o) ≡ s .says (λ p. f (s .f
 
 -- what it says depends on the ports that it asks, and on no other
 abbrev pub Local : {A : Type 0} → Site A → Type 0
-Local {A} s = (x y : ℕ → A) → ((p : ℕ) → p < s .asks → x p ≡ y p) → (o : ℕ) → s .says x o ≡ s .says y o
+Local {A} s = (x y : ℕ → A) → ((p : ℕ) → p < s .asks → x p ≡ y p) → (o : ℕ) → o < s .puts → s .says x o ≡ s .says y o
 
 -- one block is worked out, or left alone where `skip` says so
 pub record Turned {A : Type 0} (s : Site A) (skip : Bool) (before after : ℕ → A) : Type 0 where
@@ -33,13 +33,13 @@ abbrev pub Single : {A : Type 0} → (ℕ → Site A) → ℕ → Type 0
 Single site n =
     (a b o p : ℕ) → a < n → b < n → o < site a .puts → p < site b .puts → site a .to o ≡ site b .to p → (a ≡ b) × (o ≡ p)
 
--- every block has one place from 0 to n - 1, and what a block asks is put by blocks before it
-pub record InTurn {A : Type 0} (site : ℕ → Site A) (n : ℕ) (at : ℕ → ℕ) : Type 0 where
+-- count blocks in turn, those of n that `Mine` names: each has one place, and what it asks is put by blocks before it
+pub record InTurn {A : Type 0} (site : ℕ → Site A) (n : ℕ) (Mine : ℕ → Type 0) (count : ℕ) (at : ℕ → ℕ) : Type 0 where
   pub place : ℕ → ℕ
-  pub listed : (k : ℕ) → k < n → (at k < n) × (place (at k) ≡ k)
-  pub stands : (b : ℕ) → b < n → (place b < n) × (at (place b) ≡ b)
-  pub before : (a b o p : ℕ) → a < n → b < n → o < site a .puts → p < site b .asks → site b .from p ≡ site a .to o → place a < place b
+  pub listed : (k : ℕ) → k < count → (at k < n) × Mine (at k) × (place (at k) ≡ k)
+  pub stands : (b : ℕ) → b < n → Mine b → (place b < count) × (at (place b) ≡ b)
+  pub before : (a b o p : ℕ) → a < n → b < n → Mine a → Mine b → o < site a .puts → p < site b .asks → site b .from p ≡ site a .to o → place a < place b
 
--- before turn i: the blocks that are left alone, and those with a place before i, have their equation
-abbrev pub Going : {A : Type 0} → (ℕ → Site A) → ℕ → (ℕ → Bool) → (ℕ → ℕ) → ℕ → (ℕ → A) → Type 0
-Going site n skip place i f = (b : ℕ) → b < n → (skip b ≡ true) ⊎ (place b < i) → Holds (site b) f
+-- before turn i: the blocks that were done before the pass, and those with a place before i, have their equation
+abbrev pub Going : {A : Type 0} → (ℕ → Site A) → ℕ → (ℕ → Type 0) → (ℕ → Type 0) → (ℕ → ℕ) → ℕ → (ℕ → A) → Type 0
+Going site n Done Mine place i f = (b : ℕ) → b < n → Done b ⊎ (Mine b × (place b < i)) → Holds (site b) f

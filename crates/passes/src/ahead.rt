@@ -2,15 +2,16 @@
 ghost use mathlib.Core.Path.{_≡_};
 ghost use mathlib.Core.Bool.{Bool, true, false};
 ghost use mathlib.Core.List.{List, []};
-ghost use Prim.Native.Nat.{ℕ, _+_, _*_, _<_};
+ghost use mathlib.Core.Logic.{_⊎_};
+ghost use Prim.Native.Nat.{ℕ, _+_, _*_, _≤_, _<_};
 ghost use lib.Dec.{eqb};
 ghost use Rattle.blocks.specs.Kinds.{kindOf};
 ghost use Rattle.blocks.specs.Ports.{mOk, inputsOf, outputsOf};
 ghost use Rattle.blocks.specs.Shape.{inShape};
 ghost use Rattle.ports.specs.Places.{sigAt, portAt, Ported, Sized, Apart};
-ghost use Rattle.passes.specs.Rows.{kindNo, mNo, regIn, Rowed, Shaped, Ahead};
+ghost use Rattle.passes.specs.Rows.{kindNo, regIn, isKindNo, restsAhead, Rowed, Shaped, Along, Kinds};
 ghost use Rattle.passes.specs.Pass.{Holds, Turned};
-ghost use Rattle.passes.specs.Passed.{ahead, aheadAt, offered};
+ghost use Rattle.passes.specs.Passed.{ahead, aheadAt};
 use blocks::Reg;
 
 // Works one block out forward. Sources have been offered before, and sinks have no outputs.
@@ -46,9 +47,10 @@ fn forward_one(
     }
 }
 
-// Works all n blocks out forward, along the order: if the sources show what they offer, then every block shows what it says.
+// Works out the count blocks of n that do not rest, along their order: if those that rest show what they say, then every block does.
 pub fn forward(
     n: usize,
+    count: usize,
     order: &[u8; 64],
     rows: &[u8; 768],
     values: &[u32; 64],
@@ -58,14 +60,15 @@ pub fn forward(
     word: &mut [u32; 128],
 )
     requires { ⌜ Rowed (now rows) n ⌝ }
-    requires { ⌜ Ahead (now rows) n (now order) ⌝ }
+    requires { ⌜ Along (now rows) n restsAhead count (now order) ⌝ }
+    requires { ⌜ count ≤ 64 ⌝ }
     requires { ⌜ Shaped (now rows) n (now words) (now marks) ⌝ }
     requires { ⌜ Sized (now valid) (now word) ⌝ }
-    ensures { λ _. ⌜ ((xs : ℕ → List ℕ) (mask : ℕ → Bool) → ((b : ℕ) → b < n → offered (now (rows .entry)) b ≡ true → Holds (ahead (now (rows .entry)) (now (values .entry)) xs mask (regIn (now (words .entry)) (now (marks .entry))) b) (sigAt (now (valid .entry)) (now (word .entry)))) → (b : ℕ) → b < n → Holds (ahead (now (rows .entry)) (now (values .entry)) xs mask (regIn (now (words .entry)) (now (marks .entry))) b) (sigAt (now (valid .exit)) (now (word .exit)))) ⌝ }
+    ensures { λ _. ⌜ ((xs : ℕ → List ℕ) (mask : ℕ → Bool) → ((b : ℕ) → b < n → restsAhead (kindNo (now (rows .entry)) b) ≡ true → Holds (ahead (now (rows .entry)) (now (values .entry)) xs mask (regIn (now (words .entry)) (now (marks .entry))) b) (sigAt (now (valid .entry)) (now (word .entry)))) → (b : ℕ) → b < n → Holds (ahead (now (rows .entry)) (now (values .entry)) xs mask (regIn (now (words .entry)) (now (marks .entry))) b) (sigAt (now (valid .exit)) (now (word .exit)))) ⌝ }
     ensures { λ _. ⌜ Sized (now (valid .exit)) (now (word .exit)) ⌝ }
 {
     let mut i: usize = 0;
-    while i < n {
+    while i < count {
         let b = order[i] as usize;
         let row = b * 12;
         let reg = Reg {
@@ -73,15 +76,51 @@ pub fn forward(
             marks: marks[b],
         };
         forward_one(
-            rows[row],
-            rows[row + 1],
+            rows[row + 10],
+            rows[row + 11],
             values[b],
             reg,
-            row + 2,
+            row,
             rows,
             valid,
             word,
         );
+        i += 1;
+    }
+}
+
+// Works out the blocks of a kind that rests: they show what they say, and those of other kinds that rest and are done show it still.
+pub fn forward_kind(
+    kind: u8,
+    n: usize,
+    counts: &[usize; 11],
+    lists: &[u8; 704],
+    rows: &[u8; 768],
+    values: &[u32; 64],
+    words: &[u32; 64],
+    marks: &[u8; 64],
+    valid: &mut [bool; 128],
+    word: &mut [u32; 128],
+)
+    requires { ⌜ Rowed (now rows) n ⌝ }
+    requires { ⌜ Kinds (now rows) n (now counts) (now lists) ⌝ }
+    requires { ⌜ (kind < 11) × (restsAhead kind ≡ true) × (eqb kind 0 ≡ false) ⌝ }
+    requires { ⌜ Shaped (now rows) n (now words) (now marks) ⌝ }
+    requires { ⌜ Sized (now valid) (now word) ⌝ }
+    ensures { λ _. ⌜ ((xs : ℕ → List ℕ) (mask : ℕ → Bool) (done : ℕ → Bool) → ((k : ℕ) → done k ≡ true → restsAhead k ≡ true) → ((b : ℕ) → b < n → done (kindNo (now (rows .entry)) b) ≡ true → Holds (ahead (now (rows .entry)) (now (values .entry)) xs mask (regIn (now (words .entry)) (now (marks .entry))) b) (sigAt (now (valid .entry)) (now (word .entry)))) → (b : ℕ) → b < n → (done (kindNo (now (rows .entry)) b) ≡ true) ⊎ (isKindNo (now (rows .entry)) kind b ≡ true) → Holds (ahead (now (rows .entry)) (now (values .entry)) xs mask (regIn (now (words .entry)) (now (marks .entry))) b) (sigAt (now (valid .exit)) (now (word .exit)))) ⌝ }
+    ensures { λ _. ⌜ Sized (now (valid .exit)) (now (word .exit)) ⌝ }
+{
+    let first = kind as usize * 64;
+    let count = counts[kind as usize];
+    let mut i: usize = 0;
+    while i < count {
+        let b = lists[first + i] as usize;
+        let row = b * 12;
+        let reg = Reg {
+            word: words[b],
+            marks: marks[b],
+        };
+        forward_one(kind, rows[row + 11], values[b], reg, row, rows, valid, word);
         i += 1;
     }
 }

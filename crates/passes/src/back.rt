@@ -1,17 +1,18 @@
 // Backward: whether every channel is ready.
 ghost use mathlib.Core.Path.{_≡_};
-ghost use mathlib.Core.Bool.{Bool, true};
+ghost use mathlib.Core.Bool.{Bool, true, false};
 ghost use mathlib.Core.List.{List, []};
-ghost use Prim.Native.Nat.{ℕ, _<_};
+ghost use mathlib.Core.Logic.{_⊎_};
+ghost use Prim.Native.Nat.{ℕ, _≤_, _<_};
 ghost use lib.Dec.{leb};
 ghost use lib.ListN.{length};
 ghost use Rattle.blocks.specs.Kinds.{kindOf};
 ghost use Rattle.blocks.specs.Ports.{mOk, inputsOf};
 ghost use Rattle.blocks.specs.Shape.{inShape};
 ghost use Rattle.ports.specs.Places.{sigAt, readyAt, portAt, Ported, Apart};
-ghost use Rattle.passes.specs.Rows.{regIn, Rowed, Shaped, Back};
+ghost use Rattle.passes.specs.Rows.{kindNo, regIn, isKindNo, restsBack, Rowed, Shaped, Along, Kinds};
 ghost use Rattle.passes.specs.Pass.{Holds, Turned};
-ghost use Rattle.passes.specs.Passed.{back, backAt, atEnd, Settled, AllSettled};
+ghost use Rattle.passes.specs.Passed.{back, backAt, Settled, AllSettled};
 use blocks::Reg;
 
 // Works one block out backward. Sinks have been asked before, and sources have no inputs.
@@ -37,7 +38,7 @@ fn backward_one(
     match kind {
         2 => ports::backward::backward_operator(base, rows, valid, ready),
         3 => ports::backward::backward_constant(base, rows, valid, ready),
-        4 => ports::backward::backward_fork(m, reg, base, rows, valid, ready),
+        4 => ports::backward::backward_fork(m, base, rows, valid, ready),
         5 => ports::backward::backward_mux(m, base, rows, valid, word, ready),
         6 => ports::backward::backward_demux(m, base, rows, valid, word, ready),
         7 => ports::backward::backward_merge(m, reg, base, rows, valid, word, ready),
@@ -48,9 +49,10 @@ fn backward_one(
     }
 }
 
-// Works all n blocks out backward, along the order from its end: if the sinks are asked, then every block is ready as it says.
+// Works out the count blocks of n that do not rest, from the end of their order: if those that rest are ready as they say, then every block is.
 pub fn backward(
     n: usize,
+    count: usize,
     order: &[u8; 64],
     rows: &[u8; 768],
     words: &[u32; 64],
@@ -60,31 +62,69 @@ pub fn backward(
     ready: &mut [bool; 128],
 )
     requires { ⌜ Rowed (now rows) n ⌝ }
-    requires { ⌜ Back (now rows) n (now order) ⌝ }
+    requires { ⌜ Along (now rows) n restsBack count (now order) ⌝ }
+    requires { ⌜ count ≤ 64 ⌝ }
     requires { ⌜ Shaped (now rows) n (now words) (now marks) ⌝ }
     requires { ⌜ AllSettled (now rows) n (regIn (now words) (now marks)) (now valid) (now word) ⌝ }
     requires { ⌜ length (now ready) ≡ 128 ⌝ }
-    ensures { λ _. ⌜ ((values : List ℕ) (xs : ℕ → List ℕ) (mask : ℕ → Bool) → ((b : ℕ) → b < n → atEnd (now (rows .entry)) b ≡ true → Holds (back (now (rows .entry)) values xs mask (regIn (now (words .entry)) (now (marks .entry))) (sigAt (now (valid .entry)) (now (word .entry))) b) (readyAt (now (ready .entry)))) → (b : ℕ) → b < n → Holds (back (now (rows .entry)) values xs mask (regIn (now (words .entry)) (now (marks .entry))) (sigAt (now (valid .entry)) (now (word .entry))) b) (readyAt (now (ready .exit)))) ⌝ }
+    ensures { λ _. ⌜ ((values : List ℕ) (xs : ℕ → List ℕ) (mask : ℕ → Bool) → ((b : ℕ) → b < n → restsBack (kindNo (now (rows .entry)) b) ≡ true → Holds (back (now (rows .entry)) values xs mask (regIn (now (words .entry)) (now (marks .entry))) (sigAt (now (valid .entry)) (now (word .entry))) b) (readyAt (now (ready .entry)))) → (b : ℕ) → b < n → Holds (back (now (rows .entry)) values xs mask (regIn (now (words .entry)) (now (marks .entry))) (sigAt (now (valid .entry)) (now (word .entry))) b) (readyAt (now (ready .exit)))) ⌝ }
     ensures { λ _. ⌜ length (now (ready .exit)) ≡ 128 ⌝ }
 {
     let mut i: usize = 0;
-    while i < n {
-        let b = order[n - 1 - i] as usize;
+    while i < count {
+        let b = order[count - 1 - i] as usize;
         let row = b * 12;
         let reg = Reg {
             word: words[b],
             marks: marks[b],
         };
         backward_one(
-            rows[row],
-            rows[row + 1],
+            rows[row + 10],
+            rows[row + 11],
             reg,
-            row + 2,
+            row,
             rows,
             valid,
             word,
             ready,
         );
+        i += 1;
+    }
+}
+
+// Works out the blocks of a kind that rests: they are ready as they say, and those of other kinds that rest and are done are so still.
+pub fn backward_kind(
+    kind: u8,
+    n: usize,
+    counts: &[usize; 11],
+    lists: &[u8; 704],
+    rows: &[u8; 768],
+    words: &[u32; 64],
+    marks: &[u8; 64],
+    valid: &[bool; 128],
+    word: &[u32; 128],
+    ready: &mut [bool; 128],
+)
+    requires { ⌜ Rowed (now rows) n ⌝ }
+    requires { ⌜ Kinds (now rows) n (now counts) (now lists) ⌝ }
+    requires { ⌜ (kind < 11) × (restsBack kind ≡ true) × (leb kind 1 ≡ false) ⌝ }
+    requires { ⌜ Shaped (now rows) n (now words) (now marks) ⌝ }
+    requires { ⌜ AllSettled (now rows) n (regIn (now words) (now marks)) (now valid) (now word) ⌝ }
+    requires { ⌜ length (now ready) ≡ 128 ⌝ }
+    ensures { λ _. ⌜ ((values : List ℕ) (xs : ℕ → List ℕ) (mask : ℕ → Bool) (done : ℕ → Bool) → ((k : ℕ) → done k ≡ true → restsBack k ≡ true) → ((b : ℕ) → b < n → done (kindNo (now (rows .entry)) b) ≡ true → Holds (back (now (rows .entry)) values xs mask (regIn (now (words .entry)) (now (marks .entry))) (sigAt (now (valid .entry)) (now (word .entry))) b) (readyAt (now (ready .entry)))) → (b : ℕ) → b < n → (done (kindNo (now (rows .entry)) b) ≡ true) ⊎ (isKindNo (now (rows .entry)) kind b ≡ true) → Holds (back (now (rows .entry)) values xs mask (regIn (now (words .entry)) (now (marks .entry))) (sigAt (now (valid .entry)) (now (word .entry))) b) (readyAt (now (ready .exit)))) ⌝ }
+    ensures { λ _. ⌜ length (now (ready .exit)) ≡ 128 ⌝ }
+{
+    let first = kind as usize * 64;
+    let count = counts[kind as usize];
+    let mut i: usize = 0;
+    while i < count {
+        let b = lists[first + i] as usize;
+        let row = b * 12;
+        let reg = Reg {
+            word: words[b],
+            marks: marks[b],
+        };
+        backward_one(kind, rows[row + 11], reg, row, rows, valid, word, ready);
         i += 1;
     }
 }

@@ -1,6 +1,6 @@
 // The registers after a cycle.
 ghost use mathlib.Core.Path.{_≡_};
-ghost use mathlib.Core.Bool.{Bool, true};
+ghost use mathlib.Core.Bool.{Bool, true, false};
 ghost use mathlib.Core.List.{List, []};
 ghost use Prim.Native.Nat.{ℕ, _≤_, _<_};
 ghost use lib.ListN.{length};
@@ -9,8 +9,8 @@ ghost use Rattle.blocks.specs.Ports.{mOk};
 ghost use Rattle.blocks.specs.Shape.{inShape};
 ghost use Rattle.ports.specs.Places.{sigAt, readyAt, Ported};
 ghost use Rattle.ports.specs.Worked.{nextHere};
-ghost use Rattle.passes.specs.Rows.{regIn, Rowed, Shaped};
-ghost use Rattle.passes.specs.Passed.{nextNo, Settled, AllSettled};
+ghost use Rattle.passes.specs.Rows.{regIn, isKindNo, Rowed, Shaped, Kinds};
+ghost use Rattle.passes.specs.Passed.{nextNo, Settled, Stepping, AllSettled};
 use blocks::Reg;
 
 // The next registers of one block. Kinds that no rule names keep theirs.
@@ -41,9 +41,12 @@ fn next_one(
     }
 }
 
-// Steps the registers of all n blocks.
-pub fn registers(
+// Steps the registers of the blocks of a kind, and no others.
+fn next_kind(
+    kind: u8,
     n: usize,
+    counts: &[usize; 11],
+    lists: &[u8; 704],
     rows: &[u8; 768],
     valid: &[bool; 128],
     word: &[u32; 128],
@@ -52,6 +55,45 @@ pub fn registers(
     marks: &mut [u8; 64],
 )
     requires { ⌜ Rowed (now rows) n ⌝ }
+    requires { ⌜ Kinds (now rows) n (now counts) (now lists) ⌝ }
+    requires { ⌜ kind < 11 ⌝ }
+    requires { ⌜ ((b : ℕ) → b < n → isKindNo (now rows) kind b ≡ true → Stepping (now rows) b (now words) (now marks) (now valid) (now word)) ⌝ }
+    requires { ⌜ (length (now words) ≡ 64) × (length (now marks) ≡ 64) ⌝ }
+    ensures { λ _. ⌜ ((values : List ℕ) (xs : ℕ → List ℕ) (mask : ℕ → Bool) (b : ℕ) → b < n → isKindNo (now (rows .entry)) kind b ≡ true → regIn (now (words .exit)) (now (marks .exit)) b ≡ nextNo (now (rows .entry)) values xs mask (regIn (now (words .entry)) (now (marks .entry))) (sigAt (now (valid .entry)) (now (word .entry))) (readyAt (now (ready .entry))) b) ⌝ }
+    ensures { λ _. ⌜ ((b : ℕ) → (b < n → isKindNo (now (rows .entry)) kind b ≡ false) → regIn (now (words .exit)) (now (marks .exit)) b ≡ regIn (now (words .entry)) (now (marks .entry)) b) ⌝ }
+    ensures { λ _. ⌜ (length (now (words .exit)) ≡ 64) × (length (now (marks .exit)) ≡ 64) ⌝ }
+{
+    let first = kind as usize * 64;
+    let count = counts[kind as usize];
+    let mut i: usize = 0;
+    while i < count {
+        let b = lists[first + i] as usize;
+        let row = b * 12;
+        let reg = Reg {
+            word: words[b],
+            marks: marks[b],
+        };
+        let next = next_one(kind, rows[row + 11], reg, row, rows, valid, word, ready);
+        words[b] = next.word;
+        marks[b] = next.marks;
+        i += 1;
+    }
+}
+
+// Steps the registers of all n blocks, kind after kind; operators, constants, muxes, demuxes and sinks have none.
+pub fn registers(
+    n: usize,
+    counts: &[usize; 11],
+    lists: &[u8; 704],
+    rows: &[u8; 768],
+    valid: &[bool; 128],
+    word: &[u32; 128],
+    ready: &[bool; 128],
+    words: &mut [u32; 64],
+    marks: &mut [u8; 64],
+)
+    requires { ⌜ Rowed (now rows) n ⌝ }
+    requires { ⌜ Kinds (now rows) n (now counts) (now lists) ⌝ }
     requires { ⌜ Shaped (now rows) n (now words) (now marks) ⌝ }
     requires { ⌜ AllSettled (now rows) n (regIn (now words) (now marks)) (now valid) (now word) ⌝ }
     requires { ⌜ (length (now words) ≡ 64) × (length (now marks) ≡ 64) ⌝ }
@@ -59,25 +101,10 @@ pub fn registers(
     ensures { λ _. ⌜ ((b : ℕ) → n ≤ b → regIn (now (words .exit)) (now (marks .exit)) b ≡ regIn (now (words .entry)) (now (marks .entry)) b) ⌝ }
     ensures { λ _. ⌜ (length (now (words .exit)) ≡ 64) × (length (now (marks .exit)) ≡ 64) ⌝ }
 {
-    let mut b: usize = 0;
-    while b < n {
-        let row = b * 12;
-        let reg = Reg {
-            word: words[b],
-            marks: marks[b],
-        };
-        let next = next_one(
-            rows[row],
-            rows[row + 1],
-            reg,
-            row + 2,
-            rows,
-            valid,
-            word,
-            ready,
-        );
-        words[b] = next.word;
-        marks[b] = next.marks;
-        b += 1;
-    }
+    next_kind(0, n, counts, lists, rows, valid, word, ready, words, marks);
+    next_kind(4, n, counts, lists, rows, valid, word, ready, words, marks);
+    next_kind(7, n, counts, lists, rows, valid, word, ready, words, marks);
+    next_kind(8, n, counts, lists, rows, valid, word, ready, words, marks);
+    next_kind(9, n, counts, lists, rows, valid, word, ready, words, marks);
+    next_kind(10, n, counts, lists, rows, valid, word, ready, words, marks);
 }

@@ -1,3 +1,4 @@
 -- Laws of ports in lent arrays.
 pub mod Puts
 pub mod ByKind
+pub mod Copies

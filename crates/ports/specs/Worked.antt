@@ -2,7 +2,7 @@
 -- Assumes nothing.
 use Prim.Native.Nat.{ℕ, _+_, _<_}
 use mathlib.Core.Path.{_≡_}
-use mathlib.Core.Bool.{Bool, false, _&&_}
+use mathlib.Core.Bool.{Bool, false, not, _&&_, _||_}
 use mathlib.Core.List.{List}
 use lib.ListN.{getD}
 use Rattle.blocks.specs.Folds.{bit}
@@ -58,6 +58,14 @@ OwnInputs K rows base = Apart (inAt rows base) (nIn K)
 -- of n copies from port `first` on, one that has gone is not valid
 abbrev pub GoneQuiet : ℕ → ℕ → ℕ → List ℕ → ℕ → List Bool → Type 0
 GoneQuiet n first marks rows base valid = (j : ℕ) → j < n → (bit j marks && getD valid (portAt rows base (first + j)) false) ≡ false
+
+-- each of a fork's m copies is valid exactly where the input is and the copy has not gone
+abbrev pub Copied : ℕ → ℕ → List ℕ → ℕ → List Bool → Type 0
+Copied m marks rows base valid = (i : ℕ) → i < m → getD valid (portAt rows base (1 + i)) false ≡ (getD valid (portAt rows base 0) false && not (bit i marks))
+
+-- whether copy i does not hinder its fork: it is not offered, or it is taken
+abbrev pub freeAt : List ℕ → ℕ → List Bool → List Bool → ℕ → Bool
+freeAt rows base valid ready i = not (getD valid (portAt rows base (1 + i)) false) || readyAt ready (portAt rows base (1 + i))
 
 -- whether port first + j delivers
 abbrev pub wentAt : ℕ → List ℕ → ℕ → List Bool → List Bool → ℕ → Bool

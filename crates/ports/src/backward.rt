@@ -3,17 +3,17 @@ ghost use mathlib.Core.Path.{_≡_};
 ghost use mathlib.Core.Bool.{Bool, _&&_};
 ghost use mathlib.Core.List.{List};
 ghost use mathlib.Core.Option.{Option};
-ghost use Prim.Native.Nat.{ℕ, _+_, _-_, _≤_, _<_, _^_};
+ghost use Prim.Native.Nat.{ℕ, _+_, _-_, _*_, _≤_, _<_, _^_};
 ghost use lib.Dec.{eqb};
 ghost use lib.ListN.{length};
-ghost use Rattle.blocks.specs.Folds.{bits};
+ghost use Rattle.blocks.specs.Folds.{one, bits};
 ghost use Rattle.blocks.specs.Kinds.{sink, operator, constant, fork, mux, demux, merge, buffer, control};
 ghost use Rattle.blocks.specs.Equations.{gained};
 ghost use Rattle.blocks.specs.Words.{reach};
 ghost use Rattle.blocks.specs.Signals.{named};
 ghost use Rattle.blocks.specs.declared.Reg.{Reg};
 ghost use Rattle.ports.specs.Places.{sigAt, readyAt, portAt, Ported, Put, Apart};
-ghost use Rattle.ports.specs.Worked.{Backward, OwnInputs, GoneQuiet, wentAt};
+ghost use Rattle.ports.specs.Worked.{Backward, OwnInputs, Copied, GoneQuiet, freeAt, wentAt};
 use crate::forward::winner_of;
 use crate::forward::won_by;
 use crate::look;
@@ -33,6 +33,25 @@ pub fn ready_port(i: usize, t: bool, base: usize, rows: &[u8; 768], ready: &mut 
     put_ready(place(rows, base, i), t, ready);
 }
 
+// The delivered bits of the ports after port first + i, with that port's in front.
+fn went_from(
+    i: usize,
+    went: u8,
+    first: usize,
+    base: usize,
+    rows: &[u8; 768],
+    valid: &[bool; 128],
+    ready: &[bool; 128],
+) -> u8
+    requires { ⌜ Ported (now rows) base ⌝ }
+    requires { ⌜ first + i < 10 ⌝ }
+    requires { ⌜ went < 128 ⌝ }
+    ensures { λ r. ⌜ r ≡ one (wentAt first (now (rows .entry)) base (now (valid .entry)) (now (ready .entry)) i) + went * 2 ⌝ }
+{
+    let c = place(rows, base, first + i);
+    blocks::cycle::with_port(went, moved(c, valid, ready))
+}
+
 // The delivered bits of n ports from port `first` on.
 fn went_bits(
     n: u8,
@@ -43,17 +62,19 @@ fn went_bits(
     ready: &[bool; 128],
 ) -> u8
     requires { ⌜ Ported (now rows) base ⌝ }
+    requires { ⌜ 2 ≤ n ⌝ }
     requires { ⌜ n ≤ 8 ⌝ }
     requires { ⌜ first + n ≤ 10 ⌝ }
     ensures { λ r. ⌜ r ≡ bits (wentAt first (now (rows .entry)) base (now (valid .entry)) (now (ready .entry))) n ⌝ }
 {
     let mut went: u8 = 0;
     let mut i = n as usize;
-    while 0 < i {
+    while 2 < i {
         i -= 1;
-        went = blocks::cycle::with_port(went, moved(place(rows, base, first + i), valid, ready));
+        went = went_from(i, went, first, base, rows, valid, ready);
     }
-    went
+    went = went_from(1, went, first, base, rows, valid, ready);
+    went_from(0, went, first, base, rows, valid, ready)
 }
 
 // The marks of n copies from port `first` on, with those that go in this cycle.
@@ -67,6 +88,7 @@ pub fn gone_with(
     ready: &[bool; 128],
 ) -> u8
     requires { ⌜ Ported (now rows) base ⌝ }
+    requires { ⌜ 2 ≤ n ⌝ }
     requires { ⌜ n ≤ 8 ⌝ }
     requires { ⌜ first + n ≤ 10 ⌝ }
     requires { ⌜ marks < 2 ^ n ⌝ }
@@ -108,9 +130,26 @@ pub fn backward_constant(
     ready_port(0, go, base, rows, ready);
 }
 
+// go, and copy i of a fork does not hinder it.
+fn with_copy(
+    i: usize,
+    go: bool,
+    base: usize,
+    rows: &[u8; 768],
+    valid: &[bool; 128],
+    ready: &[bool; 128],
+) -> bool
+    requires { ⌜ Ported (now rows) base ⌝ }
+    requires { ⌜ i < 9 ⌝ }
+    ensures { λ r. ⌜ r ≡ (go && freeAt (now (rows .entry)) base (now (valid .entry)) (now (ready .entry)) i) ⌝ }
+{
+    let c = place(rows, base, 1 + i);
+    blocks::cycle::both(go, blocks::cycle::copy_done(valid[c], ready[c]))
+}
+
+// The input is taken when it is valid and no copy hinders. What has gone is not asked: such a copy is not offered.
 pub fn backward_fork(
     m: u8,
-    reg: Reg,
     base: usize,
     rows: &[u8; 768],
     valid: &[bool; 128],
@@ -118,16 +157,46 @@ pub fn backward_fork(
 )
     requires { ⌜ Ported (now rows) base ⌝ }
     requires { ⌜ length (now ready) ≡ 128 ⌝ }
+    requires { ⌜ 2 ≤ m ⌝ }
     requires { ⌜ m ≤ 8 ⌝ }
-    requires { ⌜ reg .marks < 2 ^ m ⌝ }
-    requires { ⌜ GoneQuiet m 1 (reg .marks) (now rows) base (now valid) ⌝ }
-    ensures { λ _. ⌜ ((mask : Bool) (word : List ℕ) → Backward (fork m) mask reg (now (rows .entry)) base (sigAt (now (valid .entry)) word) (readyAt (now (ready .entry))) (readyAt (now (ready .exit)))) ⌝ }
+    ensures { λ _. ⌜ ((mask : Bool) (r : Reg) (word : List ℕ) → Copied m (r .marks) (now (rows .entry)) base (now (valid .entry)) → Backward (fork m) mask r (now (rows .entry)) base (sigAt (now (valid .entry)) word) (readyAt (now (ready .entry))) (readyAt (now (ready .exit)))) ⌝ }
     ensures { λ _. ⌜ length (now (ready .exit)) ≡ 128 ⌝ }
 {
-    let gone = gone_with(m, 1, reg.marks, base, rows, valid, ready);
     let c = place(rows, base, 0);
-    let go = blocks::cycle::fork_ready(m, valid[c], gone);
+    let mut go = with_copy(0, valid[c], base, rows, valid, ready);
+    go = with_copy(1, go, base, rows, valid, ready);
+    let n = m as usize;
+    let mut i: usize = 2;
+    while i < n {
+        go = with_copy(i, go, base, rows, valid, ready);
+        i += 1;
+    }
     ready_port(0, go, base, rows, ready);
+}
+
+// Of the inputs from port `first` on, input i is ready where go says so and it is the chosen one.
+fn ready_if_chosen(
+    i: u32,
+    first: usize,
+    go: bool,
+    chosen: u32,
+    base: usize,
+    rows: &[u8; 768],
+    ready: &mut [bool; 128],
+)
+    requires { ⌜ Ported (now rows) base ⌝ }
+    requires { ⌜ length (now ready) ≡ 128 ⌝ }
+    requires { ⌜ first + i < 10 ⌝ }
+    ensures { λ _. ⌜ Put (λ j. portAt (now (rows .entry)) base (first + i + j)) (λ j. go && eqb i chosen) 1 (readyAt (now (ready .entry))) (readyAt (now (ready .exit))) ⌝ }
+    ensures { λ _. ⌜ length (now (ready .exit)) ≡ 128 ⌝ }
+{
+    ready_port(
+        first + i as usize,
+        blocks::cycle::chosen_ready(go, i, chosen),
+        base,
+        rows,
+        ready,
+    );
 }
 
 // Of n inputs from port `first` on, the chosen one is ready where go says so, and no other.
@@ -142,21 +211,18 @@ fn ready_chosen(
 )
     requires { ⌜ Ported (now rows) base ⌝ }
     requires { ⌜ length (now ready) ≡ 128 ⌝ }
+    requires { ⌜ 2 ≤ n ⌝ }
     requires { ⌜ first + n ≤ 10 ⌝ }
     requires { ⌜ Apart (λ j. portAt (now rows) base (first + j)) n ⌝ }
     ensures { λ _. ⌜ Put (λ j. portAt (now (rows .entry)) base (first + j)) (λ j. go && eqb j chosen) n (readyAt (now (ready .entry))) (readyAt (now (ready .exit))) ⌝ }
     ensures { λ _. ⌜ length (now (ready .exit)) ≡ 128 ⌝ }
 {
+    ready_if_chosen(0, first, go, chosen, base, rows, ready);
+    ready_if_chosen(1, first, go, chosen, base, rows, ready);
     let k = n as u32;
-    let mut i: u32 = 0;
+    let mut i: u32 = 2;
     while i < k {
-        ready_port(
-            first + i as usize,
-            blocks::cycle::chosen_ready(go, i, chosen),
-            base,
-            rows,
-            ready,
-        );
+        ready_if_chosen(i, first, go, chosen, base, rows, ready);
         i += 1;
     }
 }
@@ -171,6 +237,7 @@ pub fn backward_mux(
 )
     requires { ⌜ Ported (now rows) base ⌝ }
     requires { ⌜ length (now ready) ≡ 128 ⌝ }
+    requires { ⌜ 2 ≤ m ⌝ }
     requires { ⌜ m ≤ 8 ⌝ }
     requires { ⌜ OwnInputs (mux m) (now rows) base ⌝ }
     ensures { λ _. ⌜ ((mask : Bool) (r : Reg) → Backward (mux m) mask r (now (rows .entry)) base (sigAt (now (valid .entry)) (now (word .entry))) (readyAt (now (ready .entry))) (readyAt (now (ready .exit)))) ⌝ }
@@ -242,6 +309,7 @@ pub fn backward_merge(
 )
     requires { ⌜ Ported (now rows) base ⌝ }
     requires { ⌜ length (now ready) ≡ 128 ⌝ }
+    requires { ⌜ 2 ≤ m ⌝ }
     requires { ⌜ m ≤ 8 ⌝ }
     requires { ⌜ reg .word ≤ m ⌝ }
     requires { ⌜ reg .marks < 4 ⌝ }

@@ -8,7 +8,8 @@ ghost use lib.Dec.{eqb};
 ghost use Rattle.blocks.specs.Kinds.{source, operator, constant, fork, mux, demux, merge, buffer, control};
 ghost use Rattle.blocks.specs.Words.{reach};
 ghost use Rattle.blocks.specs.Signals.{shown, nothing, chosen};
-ghost use Rattle.blocks.specs.Equations.{winner, recorded};
+ghost use Rattle.blocks.specs.Folds.{bit};
+ghost use Rattle.blocks.specs.Equations.{copyOut, winner, recorded};
 ghost use Rattle.blocks.specs.declared.Reg.{Reg};
 ghost use Rattle.ports.specs.Places.{sigAt, portAt, Ported, Sized, Put};
 ghost use Rattle.ports.specs.Worked.{insShow, Forward, OwnOutputs};
@@ -84,6 +85,32 @@ pub fn forward_constant(
     );
 }
 
+// Puts copy i of a fork's input, which shows s. rest is the marks from the copy's own bit on.
+fn put_copy(
+    i: usize,
+    rest: u8,
+    s: Sig,
+    base: usize,
+    rows: &[u8; 768],
+    valid: &mut [bool; 128],
+    word: &mut [u32; 128],
+)
+    requires { ⌜ Ported (now rows) base ⌝ }
+    requires { ⌜ Sized (now valid) (now word) ⌝ }
+    requires { ⌜ i < 9 ⌝ }
+    ensures { λ _. ⌜ Put (λ j. portAt (now (rows .entry)) base (1 + i + j)) (λ j. copyOut (bit 0 rest) s) 1 (sigAt (now (valid .entry)) (now (word .entry))) (sigAt (now (valid .exit)) (now (word .exit))) ⌝ }
+    ensures { λ _. ⌜ Sized (now (valid .exit)) (now (word .exit)) ⌝ }
+{
+    put_port(
+        1 + i,
+        blocks::cycle::copy_out(rest, s),
+        base,
+        rows,
+        valid,
+        word,
+    );
+}
+
 // The copies that have not gone show the input.
 pub fn forward_fork(
     m: u8,
@@ -95,24 +122,20 @@ pub fn forward_fork(
 )
     requires { ⌜ Ported (now rows) base ⌝ }
     requires { ⌜ Sized (now valid) (now word) ⌝ }
+    requires { ⌜ 2 ≤ m ⌝ }
     requires { ⌜ m ≤ 8 ⌝ }
     requires { ⌜ OwnOutputs (fork m) (now rows) base ⌝ }
     ensures { λ _. ⌜ ((mask : Bool) → Forward (fork m) mask reg (now (rows .entry)) base (sigAt (now (valid .entry)) (now (word .entry))) (sigAt (now (valid .exit)) (now (word .exit)))) ⌝ }
     ensures { λ _. ⌜ Sized (now (valid .exit)) (now (word .exit)) ⌝ }
 {
     let a = look(place(rows, base, 0), valid, word);
+    put_copy(0, reg.marks, a, base, rows, valid, word);
+    put_copy(1, reg.marks / 2, a, base, rows, valid, word);
     let n = m as usize;
-    let mut rest = reg.marks;
-    let mut i: usize = 0;
+    let mut rest = reg.marks / 4;
+    let mut i: usize = 2;
     while i < n {
-        put_port(
-            1 + i,
-            blocks::cycle::copy_out(rest, a),
-            base,
-            rows,
-            valid,
-            word,
-        );
+        put_copy(i, rest, a, base, rows, valid, word);
         rest = rest / 2;
         i += 1;
     }

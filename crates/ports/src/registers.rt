@@ -41,6 +41,7 @@ pub fn next_fork(
     ready: &[bool; 128],
 ) -> Reg
     requires { ⌜ Ported (now rows) base ⌝ }
+    requires { ⌜ 2 ≤ m ⌝ }
     requires { ⌜ m ≤ 8 ⌝ }
     requires { ⌜ reg .marks < 2 ^ m ⌝ }
     requires { ⌜ GoneQuiet m 1 (reg .marks) (now rows) base (now valid) ⌝ }

@@ -2,9 +2,9 @@
 ghost use mathlib.Core.Path.{_≡_};
 ghost use mathlib.Core.Logic.{_⊎_};
 ghost use Prim.Native.Nat.{ℕ, _≤_};
-ghost use lib.ListN.{length};
+ghost use lib.ListN.{length, getD};
 ghost use Rattle.ports.specs.Places.{sigAt, readyAt, Sized};
-ghost use Rattle.passes.specs.Rows.{regIn, Rowed, Shaped, Ahead, Back, Listed};
+ghost use Rattle.passes.specs.Rows.{regIn, restsAhead, restsBack, Rowed, Shaped, Along, Kinds};
 ghost use Rattle.passes.specs.Passed.{nextNo};
 ghost use Rattle.trace.specs.Numbers.{given};
 ghost use Rattle.trace.specs.Records.{recordsOf};
@@ -17,12 +17,12 @@ ghost use Rattle.runs.specs.Cycled.{NoRoom, Went};
 pub fn cycle<'a>(
     n: usize,
     channels: usize,
-    source_count: usize,
-    sources: &'a [u8; 64],
-    sink_count: usize,
-    sinks: &'a [u8; 64],
+    ahead_count: usize,
     forth: &'a [u8; 64],
+    back_count: usize,
     rear: &'a [u8; 64],
+    counts: &[usize; 11],
+    lists: &[u8; 704],
     rows: &[u8; 768],
     values: &[u32; 64],
     bytes: &[u8],
@@ -34,6 +34,7 @@ pub fn cycle<'a>(
     count: u32,
     words: &mut [u32; 64],
     marks: &mut [u8; 64],
+    front: &mut [u32; 64],
     valid: &mut [bool; 128],
     word: &mut [u32; 128],
     ready: &mut [bool; 128],
@@ -41,25 +42,26 @@ pub fn cycle<'a>(
     out: &mut [u8],
 ) -> usize
     requires { ⌜ Rowed (now rows) n ⌝ }
-    requires { ⌜ (Ahead (now rows) n (now forth)) × (Back (now rows) n (now rear)) ⌝ }
-    requires { ⌜ (Listed (now rows) n 0 «source_count» (now sources)) × (Listed (now rows) n 1 «sink_count» (now sinks)) ⌝ }
+    requires { ⌜ (Along (now rows) n restsAhead «ahead_count» (now forth)) × (Along (now rows) n restsBack «back_count» (now rear)) ⌝ }
+    requires { ⌜ («ahead_count» ≤ 64) × («back_count» ≤ 64) ⌝ }
+    requires { ⌜ Kinds (now rows) n (now counts) (now lists) ⌝ }
     requires { ⌜ Shaped (now rows) n (now words) (now marks) ⌝ }
-    requires { ⌜ Fitting «source_count» (length (given (now bytes) (now stream))) (given (now «end_bytes») (now ends)) ⌝ }
-    requires { ⌜ (Sized (now valid) (now word)) × (length (now ready) ≡ 128) ⌝ }
+    requires { ⌜ Fitting (getD (now counts) 0 0) (length (given (now bytes) (now stream))) (given (now «end_bytes») (now ends)) ⌝ }
+    requires { ⌜ (Sized (now valid) (now word)) × (length (now ready) ≡ 128) × (length (now front) ≡ 64) ⌝ }
     requires { ⌜ (length (now words) ≡ 64) × (length (now marks) ≡ 64) × (length (now list) ≡ 128) ⌝ }
     requires { ⌜ (channels ≤ 128) × (count ≤ 1048576) ⌝ }
     ensures { λ _. ⌜ Worked (now (rows .entry)) (now (values .entry)) n (streamAt (now (rows .entry)) (given (now (bytes .entry)) (now (stream .entry))) (given (now («end_bytes» .entry)) (now (ends .entry)))) (maskAt (now (rows .entry)) offer mask) (regIn (now (words .entry)) (now (marks .entry))) (sigAt (now (valid .exit)) (now (word .exit))) (readyAt (now (ready .exit))) ⌝ }
     ensures { λ r. ⌜ (NoRoom (recordsOf count (now (valid .exit)) (now (ready .exit)) (now (word .exit)) channels) (now (words .entry)) (now (marks .entry)) (now (out .entry)) r (now (words .exit)) (now (marks .exit)) (now (out .exit))) ⊎ (Went n (nextNo (now (rows .entry)) (now (values .entry)) (streamAt (now (rows .entry)) (given (now (bytes .entry)) (now (stream .entry))) (given (now («end_bytes» .entry)) (now (ends .entry)))) (maskAt (now (rows .entry)) offer mask) (regIn (now (words .entry)) (now (marks .entry))) (sigAt (now (valid .exit)) (now (word .exit))) (readyAt (now (ready .exit)))) (recordsOf count (now (valid .exit)) (now (ready .exit)) (now (word .exit)) channels) (now (words .entry)) (now (marks .entry)) (now (out .entry)) r (now (words .exit)) (now (marks .exit)) (now (out .exit))) ⌝ }
-    ensures { λ _. ⌜ (Sized (now (valid .exit)) (now (word .exit))) × (length (now (ready .exit)) ≡ 128) × (length (now (list .exit)) ≡ 128) ⌝ }
+    ensures { λ _. ⌜ (Sized (now (valid .exit)) (now (word .exit))) × (length (now (ready .exit)) ≡ 128) × (length (now (list .exit)) ≡ 128) × (length (now (front .exit)) ≡ 64) ⌝ }
 {
     sim::wires::wires(
         n,
-        source_count,
-        sources,
-        sink_count,
-        sinks,
+        ahead_count,
         forth,
+        back_count,
         rear,
+        counts,
+        lists,
         rows,
         values,
         bytes,
@@ -70,6 +72,7 @@ pub fn cycle<'a>(
         mask,
         words,
         marks,
+        front,
         valid,
         word,
         ready,
@@ -79,6 +82,6 @@ pub fn cycle<'a>(
         return 129;
     }
     trace::records::write_records(k, list, out);
-    passes::registers::registers(n, rows, valid, word, ready, words, marks);
+    passes::registers::registers(n, counts, lists, rows, valid, word, ready, words, marks);
     k
 }

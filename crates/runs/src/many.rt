@@ -7,7 +7,7 @@ ghost use Rattle.nets.specs.Promises.{Promises};
 ghost use Rattle.nets.proofs.Decided.{accepted};
 ghost use Rattle.cycles.specs.Streams.{endsFit};
 ghost use Rattle.cycles.specs.State.{shapeOk};
-ghost use Rattle.passes.specs.Rows.{Listed};
+ghost use Rattle.passes.specs.Rows.{Kinds};
 ghost use Rattle.sim.specs.Flat.{Flat};
 ghost use Rattle.trace.specs.Numbers.{given};
 ghost use Rattle.runs.specs.Runs.{begun, ranFor, answerOf, written, runOf, traceAfter};
@@ -16,7 +16,9 @@ use crate::cycle::cycle;
 use cycles::State;
 use nets::Net;
 use nets::Plan;
-use sim::Blocks;
+use sim::Sorted;
+use sim::flat::pick;
+use sim::flat::sort_kinds;
 use trace::numbers::number_in;
 use trace::numbers::numbers_in;
 
@@ -37,8 +39,7 @@ fn answer(ending: u8, cycles: u32, records: u32, state: State) -> Run
 fn run_cycles(
     net: Net,
     plan: Plan,
-    sources: Blocks,
-    sinks: Blocks,
+    sorted: Sorted,
     rows: &[u8; 768],
     values: &[u32; 64],
     state: State,
@@ -54,7 +55,7 @@ fn run_cycles(
     requires { ⌜ Promises net plan ⌝ }
     requires { ⌜ accepted net ≡ true ⌝ }
     requires { ⌜ Flat net (net .size) (now rows) (now values) ⌝ }
-    requires { ⌜ (Listed (now rows) (net .size) 0 (sources .count) (sources .blocks)) × (Listed (now rows) (net .size) 1 (sinks .count) (sinks .blocks)) ⌝ }
+    requires { ⌜ Kinds (now rows) (net .size) (sorted .counts) (sorted .lists) ⌝ }
     requires { ⌜ (shapeOk net state ≡ true) × (state .count + n ≤ 1048576) ⌝ }
     requires { ⌜ endsFit net (given (now bytes) (now stream)) (given (now «end_bytes») (now ends)) ≡ true ⌝ }
     requires { ⌜ length (given (now «mask_bytes») (now masks)) ≡ 2 * n ⌝ }
@@ -62,14 +63,19 @@ fn run_cycles(
     ensures { λ _. ⌜ now (trace .exit) ≡ written (ranFor net state (given (now (bytes .entry)) (now (stream .entry))) (given (now («end_bytes» .entry)) (now (ends .entry))) (given (now («mask_bytes» .entry)) (now (masks .entry))) (length (now (trace .entry))) n .records) (now (trace .entry)) ⌝ }
 {
     let size = net.size as usize;
-    let forth = plan.data;
-    let rear = plan.control;
-    let source_list = sources.blocks;
-    let sink_list = sinks.blocks;
-    let source_count = sources.count;
-    let sink_count = sinks.count;
+    let data = plan.data;
+    let control = plan.control;
+    let ahead = pick(false, size, &data, rows);
+    let behind = pick(true, size, &control, rows);
+    let ahead_count = ahead.count;
+    let forth = ahead.blocks;
+    let back_count = behind.count;
+    let rear = behind.blocks;
+    let counts = sorted.counts;
+    let lists = sorted.lists;
     let mut words = state.words;
     let mut marks = state.marks;
+    let mut front = [0u32; 64];
     let mut valid = [false; 128];
     let mut word = [0u32; 128];
     let mut taken = [false; 128];
@@ -82,12 +88,12 @@ fn run_cycles(
         let k = cycle(
             size,
             net.channels as usize,
-            source_count,
-            &source_list,
-            sink_count,
-            &sink_list,
+            ahead_count,
             &forth,
+            back_count,
             &rear,
+            &counts,
+            &lists,
             rows,
             values,
             bytes,
@@ -99,6 +105,7 @@ fn run_cycles(
             state.count + i as u32,
             &mut words,
             &mut marks,
+            &mut front,
             &mut valid,
             &mut word,
             &mut taken,
@@ -162,8 +169,8 @@ fn run_accepted(
     if !sim::checks::shape_ok(state, n, &rows) {
         return refused(13, state);
     }
-    let sources = sim::flat::list_kind(0, n, &rows);
-    if !sim::checks::ends_fit(sources.count, numbers_in(bytes, stream), end_bytes, ends) {
+    let sorted = sort_kinds(n, &rows);
+    if !sim::checks::ends_fit(sorted.counts[0], numbers_in(bytes, stream), end_bytes, ends) {
         return refused(14, state);
     }
     let count = numbers_in(mask_bytes, masks);
@@ -173,12 +180,10 @@ fn run_accepted(
     if 1048576 < state.count as usize + count / 2 {
         return refused(16, state);
     }
-    let sinks = sim::flat::list_kind(1, n, &rows);
     run_cycles(
         net,
         plan,
-        sources,
-        sinks,
+        sorted,
         &rows,
         &values,
         state,

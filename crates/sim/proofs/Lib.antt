@@ -1,5 +1,6 @@
 -- Laws of flat nets, of the ends of a net in a cycle, and of a cycle as a whole.
 pub mod Lists
+pub mod Picks
 pub mod EndLaws
 pub mod Netted
 pub mod Settled

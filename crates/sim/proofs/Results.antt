@@ -81,15 +81,15 @@ module _ (net : Net) (rows values : List ℕ) (flat : Flat net (net .size) rows 
         λ i. record { word = w i; marks = m i }
 
   -- the ends by the list of sources are the net's
-  pub fit-same : (stream ends : List ℕ) (fields : fieldsOk net ≡ true) (joins : connected net ≡ true) (count : ℕ) (blocks : List ℕ) → Listed rows (net .size) 0 count blocks
+  pub fit-same : (stream ends : List ℕ) (fields : fieldsOk net ≡ true) (joins : connected net ≡ true) (count : ℕ) (at : ℕ → ℕ) → Listed rows (net .size) 0 count at
       → (eqb (length ends) count && ascend 0 (length stream) ends) ≡ endsFit net stream ends
   unfolding endsFit kindCount
-  fit-same stream ends fields joins count blocks l =
+  fit-same stream ends fields joins count at l =
       ap (λ (n : ℕ). eqb (length ends) n && ascend 0 (length stream) ends) (l .count-is ∙ number-same net rows values flat fields joins stream ends 0 (net .size) (omega arith))
 
-  pub fitting : (stream ends : List ℕ) (fields : fieldsOk net ≡ true) (joins : connected net ≡ true) (count : ℕ) (blocks : List ℕ) → Listed rows (net .size) 0 count blocks
+  pub fitting : (stream ends : List ℕ) (fields : fieldsOk net ≡ true) (joins : connected net ≡ true) (count : ℕ) (at : ℕ → ℕ) → Listed rows (net .size) 0 count at
       → endsFit net stream ends ≡ true → Fitting count (length stream) ends
-  fitting stream ends fields joins count blocks l fit = fitting-of count (length stream) ends (fit-same stream ends fields joins count blocks l ∙ fit)
+  fitting stream ends fields joins count at l fit = fitting-of count (length stream) ends (fit-same stream ends fields joins count at l ∙ fit)
 
 -- the parts of a step's answer
 module _ (net : Net) (plan : Plan) (p : Promises net plan) (rows values : List ℕ) (flat : Flat net (net .size) rows values) (s : State) (ok : shapeOk net s ≡ true)

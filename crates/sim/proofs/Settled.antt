@@ -3,10 +3,11 @@
 use mathlib.Core.Path.{_≡_, refl, sym, ap, subst, _∙_}
 use mathlib.Core.Bool.{Bool, true, false, not, _&&_, _||_}
 use mathlib.Core.List.{List}
+use mathlib.Core.Logic.{_⊎_, inl, inr}
 use Prim.Native.Nat.{ℕ, zero, suc, _+_, _^_, _≤_, _<_}
 use native.Mathlib.Omega.{arith}
 use borrow.Author.Tests.{eq-eqb, ltb-true, leb-true}
-use lib.Dec.{ltb}
+use lib.Dec.{eqb, leb, ltb}
 use lib.ListN.{length, getD}
 use lib.Seq.{length-slice}
 use Rattle.blocks.specs.Folds.{bit, countBelow}
@@ -16,21 +17,59 @@ use Rattle.blocks.specs.Signals.{full}
 use Rattle.blocks.specs.Equations.{offers, won, outOf}
 use Rattle.blocks.specs.declared.Sig.{Sig}
 use Rattle.blocks.specs.declared.Reg.{Reg}
-use Rattle.blocks.proofs.Folds.{and-1}
+use Rattle.blocks.proofs.Folds.{and-1, clash}
 use Rattle.cycles.specs.Streams.{endBefore}
 use Rattle.ports.specs.Places.{sigAt, portAt}
-use Rattle.passes.specs.Rows.{kindNo, mNo, baseNo, isKindNo, Listed}
+use Rattle.passes.specs.Rows.{kindNo, mNo, baseNo, outsNo, isKindNo, restsAhead, restsBack, Listed}
 use Rattle.passes.specs.Pass.{Holds}
-use Rattle.passes.specs.Passed.{ahead, back, offered, atEnd, Settled, AllSettled}
+use Rattle.passes.specs.Passed.{ahead, back, Settled, AllSettled}
 use Rattle.sim.specs.Ends.{streamAt, maskAt, numberNo, Fitting}
-use Rattle.sim.proofs.Lists.{listed-at}
+use Rattle.ports.proofs.Copies.{gone-quiet}
+use Rattle.passes.proofs.Listings.{listed-at}
 use Rattle.sim.proofs.EndLaws.{source-free}
 
--- a gone copy is not valid
-gone-quiet : (b v w : Bool) → w ≡ (v && not b) → (b && w) ≡ false
-gone-quiet true true w e = e
-gone-quiet true false w e = e
-gone-quiet false v w e = refl
+or-cases : (a b : Bool) → (a || b) ≡ true → (a ≡ true) ⊎ (b ≡ true)
+or-cases true b e = inl refl
+or-cases false b e = inr e
+
+or-left : (a b : Bool) → a ≡ true → (a || b) ≡ true
+or-left a b e = ap (λ (x : Bool). x || b) e
+
+-- ## The kinds that rest, one after the other: sources and sinks, then empty and full data buffers; sources and sinks, then control buffers
+
+abbrev pub ends-only : ℕ → Bool
+ends-only k = leb k 1
+
+abbrev pub ends-data : ℕ → Bool
+ends-data k = leb k 1 || eqb k 8
+
+pub ends-rest : (k : ℕ) → ends-only k ≡ true → restsAhead k ≡ true
+ends-rest k e = or-left (leb k 1) (eqb k 8 || eqb k 9) e
+
+pub data-rest : (k : ℕ) → ends-data k ≡ true → restsAhead k ≡ true
+data-rest k e = go (leb k 1) (eqb k 8) (eqb k 9) e
+  where
+    go : (a b c : Bool) → (a || b) ≡ true → (a || (b || c)) ≡ true
+    go true b c h = refl
+    go false true c h = refl
+    go false false c h = clash h refl
+
+pub ends-ready : (k : ℕ) → ends-only k ≡ true → restsBack k ≡ true
+ends-ready k e = or-left (leb k 1) (eqb k 10) e
+
+pub data-cases : (k : ℕ) → ends-data k ≡ true → (ends-only k ≡ true) ⊎ (eqb k 8 ≡ true)
+data-cases k e = or-cases (leb k 1) (eqb k 8) e
+
+pub rest-cases : (k : ℕ) → restsAhead k ≡ true → (ends-data k ≡ true) ⊎ (eqb k 9 ≡ true)
+rest-cases k e = go (leb k 1) (eqb k 8) (eqb k 9) e
+  where
+    go : (a b c : Bool) → (a || (b || c)) ≡ true → ((a || b) ≡ true) ⊎ (c ≡ true)
+    go true b c h = inl refl
+    go false true c h = inl refl
+    go false false c h = inr h
+
+pub back-cases : (k : ℕ) → restsBack k ≡ true → (ends-only k ≡ true) ⊎ (eqb k 10 ≡ true)
+back-cases k e = or-cases (leb k 1) (eqb k 10) e
 
 zero-or-one : (P : ℕ → Type 0) → P 0 → P 1 → (j : ℕ) → j < 2 → P j
 zero-or-one P p q zero h = p
@@ -59,7 +98,7 @@ module _ (rows values : List ℕ) (xs : ℕ → List ℕ) (mask : ℕ → Bool) 
   settled : (kindNo rows b ≡ 0 → length (xs b) ≤ 4294967295) → Settled (kindNo rows b) m (r b) rows (baseNo b) valid word
   settled few =
       record {
-        fork = λ e j l. gone-quiet (bit j (r b .marks)) (X (portAt rows (baseNo b) 0) .valid) _ (valid-at 4 e j l);
+        fork = λ e j l. valid-at 4 e j l;
         merge =
             λ e.
             zero-or-one (λ j. (bit j (r b .marks) && getD valid (portAt rows (baseNo b) (m + j)) false) ≡ false)
@@ -78,33 +117,41 @@ module _ (rows values : List ℕ) (n : ℕ) (stream ends : List ℕ) (offer read
   abbrev source-ahead : ℕ → (ℕ → Sig) → Type 0
   source-ahead b = Holds (ahead rows values (streamAt rows stream ends) (maskAt rows offer ready) r b)
 
-  -- every source has its equation, where those of the list have
-  pub all-sources : (count : ℕ) (sources : List ℕ) → Listed rows n 0 count sources → (X : ℕ → Sig) → ((k : ℕ) → k < count → source-ahead (getD sources k 0) X)
-      → (b : ℕ) → b < n → offered rows b ≡ true → source-ahead b X
-  all-sources count sources l X h b lb t =
-      let p = listed-at rows n 0 count sources l b lb t in
-      subst (λ (x : ℕ). source-ahead x X) (p .1) (h (countBelow (isKindNo rows 0) b) (p .0))
+  -- sources and sinks have their equation forward, where the sources of the list have; a sink puts nothing
+  pub all-sources : (count : ℕ) (at : ℕ → ℕ) → Listed rows n 0 count at → (X : ℕ → Sig) → ((k : ℕ) → k < count → source-ahead (at k) X)
+      → (b : ℕ) → b < n → leb (kindNo rows b) 1 ≡ true → source-ahead b X
+  all-sources count at l X h b lb t = by (kindNo rows b) refl (leb-true (kindNo rows b) 1 t)
+    where
+      by : (k : ℕ) → kindNo rows b ≡ k → k ≤ 1 → source-ahead b X
+      by zero e q =
+          let p = listed-at rows n 0 count at l b lb (eq-eqb (kindNo rows b) 0 e) in
+          subst (λ (x : ℕ). source-ahead x X) (p .1) (h (countBelow (isKindNo rows 0) b) (p .0))
+      by (suc zero) e q = λ o lo. let z : outsNo rows b ≡ 0 = ap (λ (k : ℕ). outputsOf k (mNo rows b)) e in absurd (never o lo z)
+        where
+          never : (o : ℕ) → o < outsNo rows b → outsNo rows b ≡ 0 → ⊥
+          never o lo z = omega arith
+      by (suc (suc k)) e q = absurd (omega arith)
 
-  -- and backward every source and sink, where the sinks of the list have
-  pub all-sinks : (count : ℕ) (sinks : List ℕ) → Listed rows n 1 count sinks → (X : ℕ → Sig) (Y : ℕ → Bool)
-      → ((k : ℕ) → k < count → Holds (back rows values (streamAt rows stream ends) (maskAt rows offer ready) r X (getD sinks k 0)) Y)
-      → (b : ℕ) → b < n → atEnd rows b ≡ true → Holds (back rows values (streamAt rows stream ends) (maskAt rows offer ready) r X b) Y
-  all-sinks count sinks l X Y h b lb t = by (kindNo rows b) refl (leb-true (kindNo rows b) 1 t)
+  -- and backward, where the sinks of the list have; a source puts nothing
+  pub all-sinks : (count : ℕ) (at : ℕ → ℕ) → Listed rows n 1 count at → (X : ℕ → Sig) (Y : ℕ → Bool)
+      → ((k : ℕ) → k < count → Holds (back rows values (streamAt rows stream ends) (maskAt rows offer ready) r X (at k)) Y)
+      → (b : ℕ) → b < n → leb (kindNo rows b) 1 ≡ true → Holds (back rows values (streamAt rows stream ends) (maskAt rows offer ready) r X b) Y
+  all-sinks count at l X Y h b lb t = by (kindNo rows b) refl (leb-true (kindNo rows b) 1 t)
     where
       by : (k : ℕ) → kindNo rows b ≡ k → k ≤ 1 → Holds (back rows values (streamAt rows stream ends) (maskAt rows offer ready) r X b) Y
       by zero e q = source-free rows values (streamAt rows stream ends) (maskAt rows offer ready) r b e X Y
       by (suc zero) e q =
-          let p = listed-at rows n 1 count sinks l b lb (eq-eqb (kindNo rows b) 1 e) in
+          let p = listed-at rows n 1 count at l b lb (eq-eqb (kindNo rows b) 1 e) in
           subst (λ (x : ℕ). Holds (back rows values (streamAt rows stream ends) (maskAt rows offer ready) r X x) Y) (p .1) (h (countBelow (isKindNo rows 1) b) (p .0))
       by (suc (suc k)) e q = absurd (omega arith)
 
-  pub all-settled : (count : ℕ) (sources : List ℕ) → Listed rows n 0 count sources → Fitting count (length stream) ends → ((k : ℕ) → getD ends k 0 < 2 ^ 32)
+  pub all-settled : (count : ℕ) (at : ℕ → ℕ) → Listed rows n 0 count at → Fitting count (length stream) ends → ((k : ℕ) → getD ends k 0 < 2 ^ 32)
       → (valid : List Bool) (word : List ℕ) → ((b : ℕ) → b < n → source-ahead b (sigAt valid word)) → AllSettled rows n r valid word
-  all-settled count sources l f small valid word h b lb =
+  all-settled count at l f small valid word h b lb =
       settled rows values (streamAt rows stream ends) (maskAt rows offer ready) r b valid word (h b lb) short
     where
       short : kindNo rows b ≡ 0 → length (streamAt rows stream ends b) ≤ 4294967295
       short e =
           let k : ℕ = numberNo rows 0 b in
-          let p = listed-at rows n 0 count sources l b lb (eq-eqb (kindNo rows b) 0 e) in
+          let p = listed-at rows n 0 count at l b lb (eq-eqb (kindNo rows b) 0 e) in
           omega (arith, length-slice (endBefore ends k) (getD ends k 0) stream (f .within k (p .0)), small k)

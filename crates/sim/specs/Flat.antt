@@ -1,7 +1,8 @@
--- A net as flat rows, and its sources and sinks as lists.
+-- A net as flat rows, and its blocks by kind.
 -- Assumes nothing.
 use Prim.Native.Nat.{ℕ, _+_, _*_, _≤_, _<_}
 use mathlib.Core.Path.{_≡_}
+use mathlib.Core.Bool.{Bool, cond}
 use mathlib.Core.List.{List}
 use mathlib.Core.Logic.{_⊎_}
 use lib.ListN.{length, getD}
@@ -9,7 +10,7 @@ use Rattle.nets.specs.Net.{blockAt}
 use Rattle.nets.specs.declared.Block.{Block}
 use Rattle.nets.specs.declared.Net.{Net}
 use Rattle.ports.specs.Places.{portAt}
-use Rattle.passes.specs.Rows.{kindNo, mNo, baseNo, Rowed, Listed}
+use Rattle.passes.specs.Rows.{kindNo, mNo, baseNo, restsAhead, restsBack, Rowed, Listed}
 
 -- row b holds the block
 pub record RowIs (block : Block) (rows : List ℕ) (b : ℕ) : Type 0 where
@@ -31,7 +32,11 @@ pub record Flat (net : Net) (n : ℕ) (rows values : List ℕ) : Type 0 where
   pub values-long : length values ≡ 64
 
 -- the blocks of a kind among those of some rows, by number
-pub record Among (rows : List ℕ) (kind count : ℕ) (blocks : List ℕ) : Type 0 where
+pub record Among (rows : List ℕ) (kind count : ℕ) (at : ℕ → ℕ) : Type 0 where
   pub size : ℕ
   pub rowed : Rowed rows size
-  pub listed : Listed rows size kind count blocks
+  pub listed : Listed rows size kind count at
+
+-- blocks that rest in the pass backward, or forward
+abbrev pub restsBy : Bool → ℕ → Bool
+restsBy control = cond control restsBack restsAhead

@@ -18,7 +18,7 @@ fn entry_ok(b: usize, n: usize, rows: &[u8; 768], reg: Reg) -> bool
 {
     if b < n {
         let row = b * 12;
-        return blocks::shape::reg_ok(rows[row], rows[row + 1], reg);
+        return blocks::shape::reg_ok(rows[row + 10], rows[row + 11], reg);
     }
     blocks::shape::zero_reg(reg)
 }

@@ -30,7 +30,7 @@ fn word_at(p: u32, start: u32, len: u32, bytes: &[u8], stream: &[u32]) -> u32
     }
 }
 
-// Offers the word of one source, whose stream runs from `start` to `end`.
+// Offers the word of one source, whose stream runs from `start` to `end`, and gives the word that was read.
 fn offer_one(
     reg: Reg,
     start: u32,
@@ -42,7 +42,7 @@ fn offer_one(
     rows: &[u8; 768],
     valid: &mut [bool; 128],
     word: &mut [u32; 128],
-)
+) -> u32
     requires { ⌜ Ported (now rows) base ⌝ }
     requires { ⌜ Sized (now valid) (now word) ⌝ }
     requires { ⌜ (start ≤ end) × (end ≤ length (given (now bytes) (now stream))) ⌝ }
@@ -53,12 +53,14 @@ fn offer_one(
     let v = blocks::cycle::source_offers(reg, len, offer);
     let w = word_at(reg.word, start, len, bytes, stream);
     ports::forward::put_port(0, blocks::cycle::show(v, w), base, rows, valid, word);
+    w
 }
 
-// Every source offers its word. The mask is halved along the sources.
+// Every source offers its word. The mask is halved along the sources. The words that were read are kept in `front`, so that the compiler reads them without a branch on
+// whether they are offered.
 pub fn offer_sources(
     count: usize,
-    sources: &[u8; 64],
+    sources: &[u8; 704],
     rows: &[u8; 768],
     words: &[u32; 64],
     marks: &[u8; 64],
@@ -67,14 +69,15 @@ pub fn offer_sources(
     end_bytes: &[u8],
     ends: &[u32],
     offer: u32,
+    front: &mut [u32; 64],
     valid: &mut [bool; 128],
     word: &mut [u32; 128],
 )
-    requires { ⌜ Among (now rows) 0 count (now sources) ⌝ }
+    requires { ⌜ Among (now rows) 0 count (λ k. getD (now sources) k 0) ⌝ }
     requires { ⌜ Fitting count (length (given (now bytes) (now stream))) (given (now «end_bytes») (now ends)) ⌝ }
-    requires { ⌜ Sized (now valid) (now word) ⌝ }
+    requires { ⌜ (Sized (now valid) (now word)) × (length (now front) ≡ 64) ⌝ }
     ensures { λ _. ⌜ ((values : List ℕ) (ready k : ℕ) → k < count → Holds (ahead (now (rows .entry)) values (streamAt (now (rows .entry)) (given (now (bytes .entry)) (now (stream .entry))) (given (now («end_bytes» .entry)) (now (ends .entry)))) (maskAt (now (rows .entry)) offer ready) (regIn (now (words .entry)) (now (marks .entry))) (getD (now (sources .entry)) k 0)) (sigAt (now (valid .exit)) (now (word .exit)))) ⌝ }
-    ensures { λ _. ⌜ Sized (now (valid .exit)) (now (word .exit)) ⌝ }
+    ensures { λ _. ⌜ (Sized (now (valid .exit)) (now (word .exit))) × (length (now (front .exit)) ≡ 64) ⌝ }
 {
     let mut rest = offer;
     let mut start: u32 = 0;
@@ -86,14 +89,14 @@ pub fn offer_sources(
             word: words[b],
             marks: marks[b],
         };
-        offer_one(
+        front[k] = offer_one(
             reg,
             start,
             end,
             rest % 2 == 1,
             bytes,
             stream,
-            b * 12 + 2,
+            b * 12,
             rows,
             valid,
             word,
@@ -107,21 +110,21 @@ pub fn offer_sources(
 // Every sink is ready as its bit says. The mask is halved along the sinks.
 pub fn ready_sinks(
     count: usize,
-    sinks: &[u8; 64],
+    lists: &[u8; 704],
     rows: &[u8; 768],
     mask: u32,
     ready: &mut [bool; 128],
 )
-    requires { ⌜ Among (now rows) 1 count (now sinks) ⌝ }
+    requires { ⌜ Among (now rows) 1 count (λ k. getD (now lists) (64 + k) 0) ⌝ }
     requires { ⌜ length (now ready) ≡ 128 ⌝ }
-    ensures { λ _. ⌜ ((values : List ℕ) (xs : ℕ → List ℕ) (offer : ℕ) (r : ℕ → Reg) (X : ℕ → Sig) (k : ℕ) → k < count → Holds (back (now (rows .entry)) values xs (maskAt (now (rows .entry)) offer mask) r X (getD (now (sinks .entry)) k 0)) (readyAt (now (ready .exit)))) ⌝ }
+    ensures { λ _. ⌜ ((values : List ℕ) (xs : ℕ → List ℕ) (offer : ℕ) (r : ℕ → Reg) (X : ℕ → Sig) (k : ℕ) → k < count → Holds (back (now (rows .entry)) values xs (maskAt (now (rows .entry)) offer mask) r X (getD (now (lists .entry)) (64 + k) 0)) (readyAt (now (ready .exit)))) ⌝ }
     ensures { λ _. ⌜ length (now (ready .exit)) ≡ 128 ⌝ }
 {
     let mut rest = mask;
     let mut k: usize = 0;
     while k < count {
-        let b = sinks[k] as usize;
-        ports::backward::ready_port(0, rest % 2 == 1, b * 12 + 2, rows, ready);
+        let b = lists[64 + k] as usize;
+        ports::backward::ready_port(0, rest % 2 == 1, b * 12, rows, ready);
         rest = rest / 2;
         k += 1;
     }

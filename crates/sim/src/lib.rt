@@ -7,10 +7,16 @@ pub mod flat;
 pub mod step;
 pub mod wires;
 
-// The blocks of a kind, in block order: the first `count` entries.
+// Some blocks in an order: the first `count` entries.
 pub struct Blocks {
     pub count: usize,
     pub blocks: [u8; 64],
+}
+
+// The blocks of each kind, in block order: how many, and from 64 times the kind on which ones.
+pub struct Sorted {
+    pub counts: [usize; 11],
+    pub lists: [u8; 704],
 }
 
 // What `fresh` returns: its refusal, or 0, and the state.

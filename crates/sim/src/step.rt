@@ -11,13 +11,14 @@ ghost use Rattle.cycles.specs.Step.{refusedStep, steppedBy, stepBy};
 ghost use Rattle.nets.specs.Promises.{Planned, Promises};
 ghost use Rattle.sim.specs.Calls.{freshOf, stepOf};
 ghost use Rattle.sim.specs.Flat.{Flat};
-ghost use Rattle.passes.specs.Rows.{Listed};
-use crate::Blocks;
+ghost use Rattle.passes.specs.Rows.{Kinds};
 use crate::Fresh;
+use crate::Sorted;
 use crate::checks::ends_fit;
 use crate::checks::shape_ok;
 use crate::flat::flatten;
-use crate::flat::list_kind;
+use crate::flat::pick;
+use crate::flat::sort_kinds;
 use crate::wires::moves_of;
 use crate::wires::wires;
 use cycles::State;
@@ -81,8 +82,7 @@ fn refused(refusal: u8, state: State) -> Stepped
 fn work(
     net: Net,
     plan: Plan,
-    sources: Blocks,
-    sinks: Blocks,
+    sorted: Sorted,
     rows: &[u8; 768],
     values: &[u32; 64],
     state: State,
@@ -93,29 +93,34 @@ fn work(
 ) -> Stepped
     requires { ⌜ Promises net plan ⌝ }
     requires { ⌜ Flat net (net .size) (now rows) (now values) ⌝ }
-    requires { ⌜ (Listed (now rows) (net .size) 0 (sources .count) (sources .blocks)) × (Listed (now rows) (net .size) 1 (sinks .count) (sinks .blocks)) ⌝ }
+    requires { ⌜ Kinds (now rows) (net .size) (sorted .counts) (sorted .lists) ⌝ }
     requires { ⌜ (shapeOk net state ≡ true) × (state .count < 1048576) ⌝ }
     requires { ⌜ endsFit net (now stream) (now ends) ≡ true ⌝ }
     ensures { λ r. ⌜ r ≡ steppedBy net state (now (stream .entry)) (now (ends .entry)) (signalsOf net (now (stream .entry)) (now (ends .entry)) offer ready (regsOf state)) ⌝ }
 {
     let n = net.size as usize;
-    let forth = plan.data;
-    let rear = plan.control;
-    let source_list = sources.blocks;
-    let sink_list = sinks.blocks;
+    let data = plan.data;
+    let control = plan.control;
+    let ahead = pick(false, n, &data, rows);
+    let behind = pick(true, n, &control, rows);
+    let forth = ahead.blocks;
+    let rear = behind.blocks;
+    let counts = sorted.counts;
+    let lists = sorted.lists;
     let mut words = state.words;
     let mut marks = state.marks;
+    let mut front = [0u32; 64];
     let mut valid = [false; 128];
     let mut word = [0u32; 128];
     let mut taken = [false; 128];
     wires(
         n,
-        sources.count,
-        &source_list,
-        sinks.count,
-        &sink_list,
+        ahead.count,
         &forth,
+        behind.count,
         &rear,
+        &counts,
+        &lists,
         rows,
         values,
         b"",
@@ -126,12 +131,23 @@ fn work(
         ready,
         &words,
         &marks,
+        &mut front,
         &mut valid,
         &mut word,
         &mut taken,
     );
     let moved = moves_of(net.channels as usize, &valid, &word, &taken);
-    passes::registers::registers(n, rows, &valid, &word, &taken, &mut words, &mut marks);
+    passes::registers::registers(
+        n,
+        &counts,
+        &lists,
+        rows,
+        &valid,
+        &word,
+        &taken,
+        &mut words,
+        &mut marks,
+    );
     let after = State {
         count: state.count + 1,
         words,
@@ -167,19 +183,17 @@ fn step_accepted(
     if !shape_ok(state, n, &rows) {
         return refused(13, state);
     }
-    let sources = list_kind(0, n, &rows);
-    if !ends_fit(sources.count, stream.len(), b"", ends) {
+    let sorted = sort_kinds(n, &rows);
+    if !ends_fit(sorted.counts[0], stream.len(), b"", ends) {
         return refused(14, state);
     }
     if 1048576 <= state.count {
         return refused(16, state);
     }
-    let sinks = list_kind(1, n, &rows);
     work(
         net,
         plan,
-        sources,
-        sinks,
+        sorted,
         &rows,
         &values,
         state,

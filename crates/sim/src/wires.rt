@@ -6,7 +6,7 @@ ghost use lib.Dec.{ltb};
 ghost use lib.ListN.{length, getD};
 ghost use Rattle.blocks.specs.Folds.{one};
 ghost use Rattle.ports.specs.Places.{sigAt, readyAt, Sized};
-ghost use Rattle.passes.specs.Rows.{regIn, Rowed, Shaped, Ahead, Back, Listed};
+ghost use Rattle.passes.specs.Rows.{regIn, restsAhead, restsBack, Rowed, Shaped, Along, Kinds};
 ghost use Rattle.passes.specs.Passed.{AllSettled};
 ghost use Rattle.trace.specs.Numbers.{given};
 ghost use Rattle.sim.specs.Ends.{streamAt, maskAt, Fitting};
@@ -14,16 +14,20 @@ ghost use Rattle.sim.specs.Wires.{Worked, MovedIs};
 use crate::Moves;
 use crate::ends::offer_sources;
 use crate::ends::ready_sinks;
+use passes::ahead::forward;
+use passes::ahead::forward_kind;
+use passes::back::backward;
+use passes::back::backward_kind;
 
 // Works out what every channel shows, then whether it is ready.
 pub fn wires<'a>(
     n: usize,
-    source_count: usize,
-    sources: &'a [u8; 64],
-    sink_count: usize,
-    sinks: &'a [u8; 64],
+    ahead_count: usize,
     forth: &'a [u8; 64],
+    back_count: usize,
     rear: &'a [u8; 64],
+    counts: &[usize; 11],
+    lists: &[u8; 704],
     rows: &[u8; 768],
     values: &[u32; 64],
     bytes: &[u8],
@@ -34,23 +38,25 @@ pub fn wires<'a>(
     mask: u32,
     words: &[u32; 64],
     marks: &[u8; 64],
+    front: &mut [u32; 64],
     valid: &mut [bool; 128],
     word: &mut [u32; 128],
     ready: &mut [bool; 128],
 )
     requires { ⌜ Rowed (now rows) n ⌝ }
-    requires { ⌜ (Ahead (now rows) n (now forth)) × (Back (now rows) n (now rear)) ⌝ }
-    requires { ⌜ (Listed (now rows) n 0 «source_count» (now sources)) × (Listed (now rows) n 1 «sink_count» (now sinks)) ⌝ }
+    requires { ⌜ (Along (now rows) n restsAhead «ahead_count» (now forth)) × (Along (now rows) n restsBack «back_count» (now rear)) ⌝ }
+    requires { ⌜ («ahead_count» ≤ 64) × («back_count» ≤ 64) ⌝ }
+    requires { ⌜ Kinds (now rows) n (now counts) (now lists) ⌝ }
     requires { ⌜ Shaped (now rows) n (now words) (now marks) ⌝ }
-    requires { ⌜ Fitting «source_count» (length (given (now bytes) (now stream))) (given (now «end_bytes») (now ends)) ⌝ }
-    requires { ⌜ (Sized (now valid) (now word)) × (length (now ready) ≡ 128) ⌝ }
+    requires { ⌜ Fitting (getD (now counts) 0 0) (length (given (now bytes) (now stream))) (given (now «end_bytes») (now ends)) ⌝ }
+    requires { ⌜ (Sized (now valid) (now word)) × (length (now ready) ≡ 128) × (length (now front) ≡ 64) ⌝ }
     ensures { λ _. ⌜ Worked (now (rows .entry)) (now (values .entry)) n (streamAt (now (rows .entry)) (given (now (bytes .entry)) (now (stream .entry))) (given (now («end_bytes» .entry)) (now (ends .entry)))) (maskAt (now (rows .entry)) offer mask) (regIn (now (words .entry)) (now (marks .entry))) (sigAt (now (valid .exit)) (now (word .exit))) (readyAt (now (ready .exit))) ⌝ }
     ensures { λ _. ⌜ AllSettled (now (rows .entry)) n (regIn (now (words .entry)) (now (marks .entry))) (now (valid .exit)) (now (word .exit)) ⌝ }
-    ensures { λ _. ⌜ (Sized (now (valid .exit)) (now (word .exit))) × (length (now (ready .exit)) ≡ 128) ⌝ }
+    ensures { λ _. ⌜ (Sized (now (valid .exit)) (now (word .exit))) × (length (now (ready .exit)) ≡ 128) × (length (now (front .exit)) ≡ 64) ⌝ }
 {
     offer_sources(
-        source_count,
-        sources,
+        counts[0],
+        lists,
         rows,
         words,
         marks,
@@ -59,12 +65,26 @@ pub fn wires<'a>(
         end_bytes,
         ends,
         offer,
+        front,
         valid,
         word,
     );
-    passes::ahead::forward(n, forth, rows, values, words, marks, valid, word);
-    ready_sinks(sink_count, sinks, rows, mask, ready);
-    passes::back::backward(n, rear, rows, words, marks, valid, word, ready);
+    forward_kind(8, n, counts, lists, rows, values, words, marks, valid, word);
+    forward_kind(9, n, counts, lists, rows, values, words, marks, valid, word);
+    forward(
+        n,
+        ahead_count,
+        forth,
+        rows,
+        values,
+        words,
+        marks,
+        valid,
+        word,
+    );
+    ready_sinks(counts[1], lists, rows, mask, ready);
+    backward_kind(10, n, counts, lists, rows, words, marks, valid, word, ready);
+    backward(n, back_count, rear, rows, words, marks, valid, word, ready);
 }
 
 // What moved on the first n channels.

@@ -3,7 +3,7 @@
 use mathlib.Core.Path.{refl}
 use Prim.Native.Nat.{_≤_}
 use mathlib.Core.Option.{none, some}
-use Rattle.passes.proofs.Arms.{m-small, merge-fits, ahead-arm, apart-outs, left-end, ahead-left}
+use Rattle.passes.proofs.Arms.{m-small, m-two, merge-fits, ahead-arm, apart-outs, left-end, ahead-left}
 use borrow.Author.Needs.{needs}
 use Rattle.passes.proofs.ahead.forward_one.Statement.{statement}
 use Rattle.passes.proofs.ahead.forward_one.Tie as tie
@@ -15,7 +15,7 @@ forward-constant-requires : tie.Need-forward-constant-requires
 forward-constant-requires c κs = search needs
 
 forward-fork-requires : tie.Need-forward-fork-requires
-forward-fork-requires c κs = (c .before .before .before .pre .0, (c .before .before .before .pre .1 .0, (m-small (c .before .before .before .args .kind) (c .before .before .before .args .m) (c .before .before .before .pre .1 .1 .0), apart-outs 4 (c .before .before .before .args .kind) (c .before .before .before .args .m) (c .before .before .match .keys3) (c .before .before .before .args .rows .now) (c .before .before .before .args .base) (c .before .before .before .pre .1 .1 .1 .1))))
+forward-fork-requires c κs = (c .before .before .before .pre .0, (c .before .before .before .pre .1 .0, (m-two 4 (c .before .before .before .args .kind) (c .before .before .before .args .m) (c .before .before .match .keys3) refl (c .before .before .before .pre .1 .1 .0), (m-small (c .before .before .before .args .kind) (c .before .before .before .args .m) (c .before .before .before .pre .1 .1 .0), apart-outs 4 (c .before .before .before .args .kind) (c .before .before .before .args .m) (c .before .before .match .keys3) (c .before .before .before .args .rows .now) (c .before .before .before .args .base) (c .before .before .before .pre .1 .1 .1 .1)))))
 
 forward-mux-requires : tie.Need-forward-mux-requires
 forward-mux-requires c κs = (c .before .before .before .pre .0, (c .before .before .before .pre .1 .0, m-small (c .before .before .before .args .kind) (c .before .before .before .args .m) (c .before .before .before .pre .1 .1 .0)))

@@ -4,7 +4,7 @@ use mathlib.Core.Path.{refl}
 use Prim.Native.Nat.{_≤_}
 use mathlib.Core.Option.{none, some}
 use Rattle.ports.specs.Places.{sigAt}
-use Rattle.passes.proofs.Arms.{m-small, merge-fits, fork-fits, back-arm, apart-ins, left-end, back-left}
+use Rattle.passes.proofs.Arms.{m-small, m-two, merge-fits, back-arm, apart-ins, left-end, back-left}
 use borrow.Author.Needs.{needs}
 use Rattle.passes.proofs.back.backward_one.Statement.{statement}
 use Rattle.passes.proofs.back.backward_one.Tie as tie
@@ -16,16 +16,16 @@ backward-constant-requires : tie.Need-backward-constant-requires
 backward-constant-requires c κs = search needs
 
 backward-fork-requires : tie.Need-backward-fork-requires
-backward-fork-requires c κs = (c .before .before .pre .0, (c .before .before .pre .1 .0, (m-small (c .before .before .args .kind) (c .before .before .args .m) (c .before .before .pre .1 .1 .0), (fork-fits (c .before .before .args .kind) (c .before .before .args .m) (c .before .before .args .reg) (c .before .match .keys3) (c .before .before .pre .1 .1 .1 .0), c .before .before .pre .1 .1 .1 .1 .1 .fork (c .before .match .keys3)))))
+backward-fork-requires c κs = (c .before .before .pre .0, (c .before .before .pre .1 .0, (m-two 4 (c .before .before .args .kind) (c .before .before .args .m) (c .before .match .keys3) refl (c .before .before .pre .1 .1 .0), m-small (c .before .before .args .kind) (c .before .before .args .m) (c .before .before .pre .1 .1 .0))))
 
 backward-mux-requires : tie.Need-backward-mux-requires
-backward-mux-requires c κs = (c .before .before .pre .0, (c .before .before .pre .1 .0, (m-small (c .before .before .args .kind) (c .before .before .args .m) (c .before .before .pre .1 .1 .0), apart-ins 5 (c .before .before .args .kind) (c .before .before .args .m) (c .before .match .keys4) (c .before .before .args .rows .now) (c .before .before .args .base) (c .before .before .pre .1 .1 .1 .1 .0))))
+backward-mux-requires c κs = (c .before .before .pre .0, (c .before .before .pre .1 .0, (m-two 5 (c .before .before .args .kind) (c .before .before .args .m) (c .before .match .keys4) refl (c .before .before .pre .1 .1 .0), (m-small (c .before .before .args .kind) (c .before .before .args .m) (c .before .before .pre .1 .1 .0), apart-ins 5 (c .before .before .args .kind) (c .before .before .args .m) (c .before .match .keys4) (c .before .before .args .rows .now) (c .before .before .args .base) (c .before .before .pre .1 .1 .1 .1 .0)))))
 
 backward-demux-requires : tie.Need-backward-demux-requires
 backward-demux-requires c κs = (c .before .before .pre .0, (c .before .before .pre .1 .0, (m-small (c .before .before .args .kind) (c .before .before .args .m) (c .before .before .pre .1 .1 .0), apart-ins 6 (c .before .before .args .kind) (c .before .before .args .m) (c .before .match .keys5) (c .before .before .args .rows .now) (c .before .before .args .base) (c .before .before .pre .1 .1 .1 .1 .0))))
 
 backward-merge-requires : tie.Need-backward-merge-requires
-backward-merge-requires c κs = (c .before .before .pre .0, (c .before .before .pre .1 .0, (m-small (c .before .before .args .kind) (c .before .before .args .m) (c .before .before .pre .1 .1 .0), (merge-fits (c .before .before .args .kind) (c .before .before .args .m) (c .before .before .args .reg) (c .before .match .keys6) (c .before .before .pre .1 .1 .1 .0) .0, (merge-fits (c .before .before .args .kind) (c .before .before .args .m) (c .before .before .args .reg) (c .before .match .keys6) (c .before .before .pre .1 .1 .1 .0) .1, (c .before .before .pre .1 .1 .1 .1 .1 .merge (c .before .match .keys6), apart-ins 7 (c .before .before .args .kind) (c .before .before .args .m) (c .before .match .keys6) (c .before .before .args .rows .now) (c .before .before .args .base) (c .before .before .pre .1 .1 .1 .1 .0)))))))
+backward-merge-requires c κs = (c .before .before .pre .0, (c .before .before .pre .1 .0, (m-two 7 (c .before .before .args .kind) (c .before .before .args .m) (c .before .match .keys6) refl (c .before .before .pre .1 .1 .0), (m-small (c .before .before .args .kind) (c .before .before .args .m) (c .before .before .pre .1 .1 .0), (merge-fits (c .before .before .args .kind) (c .before .before .args .m) (c .before .before .args .reg) (c .before .match .keys6) (c .before .before .pre .1 .1 .1 .0) .0, (merge-fits (c .before .before .args .kind) (c .before .before .args .m) (c .before .before .args .reg) (c .before .match .keys6) (c .before .before .pre .1 .1 .1 .0) .1, (c .before .before .pre .1 .1 .1 .1 .1 .merge (c .before .match .keys6), apart-ins 7 (c .before .before .args .kind) (c .before .before .args .m) (c .before .match .keys6) (c .before .before .args .rows .now) (c .before .before .args .base) (c .before .before .pre .1 .1 .1 .1 .0))))))))
 
 backward-data-requires : tie.Need-backward-data-requires
 backward-data-requires c κs = search needs
@@ -49,7 +49,7 @@ returns-2 c =
 returns-3 : tie.Need-returns-3
 returns-3 c =
     let a = c .before .before .before .args in
-    (λ value xs mask. back-arm 4 (a .kind) (a .m) value (c .before .before .match .keys3) (a .rows .now) (a .base) mask (a .reg) xs (sigAt (a .valid .now) (a .word .now)) _ _ refl (c .backward-fork .ensures .0 mask (a .word .now)), c .backward-fork .ensures .1)
+    (λ value xs mask. back-arm 4 (a .kind) (a .m) value (c .before .before .match .keys3) (a .rows .now) (a .base) mask (a .reg) xs (sigAt (a .valid .now) (a .word .now)) _ _ refl (c .backward-fork .ensures .0 mask (a .reg) (a .word .now) (c .before .before .before .pre .1 .1 .1 .1 .1 .fork (c .before .before .match .keys3))), c .backward-fork .ensures .1)
 
 returns-4 : tie.Need-returns-4
 returns-4 c =

@@ -1,8 +1,10 @@
 -- `passes::registers::next_one` meets its contract: by the kind, what its function of `ports` ensures.
 -- Assumes nothing.
+use mathlib.Core.Path.{refl}
 use mathlib.Core.Option.{none, some}
+use Rattle.ports.proofs.Copies.{copied-quiet}
 use Rattle.ports.specs.Places.{sigAt, readyAt}
-use Rattle.passes.proofs.Arms.{m-small, merge-fits, fork-fits, next-arm, next-left}
+use Rattle.passes.proofs.Arms.{m-small, m-two, merge-fits, fork-fits, next-arm, next-left}
 use borrow.Author.Needs.{needs}
 use Rattle.passes.proofs.registers.next_one.Statement.{statement}
 use Rattle.passes.proofs.registers.next_one.Tie as tie
@@ -11,7 +13,7 @@ next-source-requires : tie.Need-next-source-requires
 next-source-requires c κs = (c .before .pre .0, c .before .pre .1 .1 .1 .position (c .match .keys1))
 
 next-fork-requires : tie.Need-next-fork-requires
-next-fork-requires c κs = (c .before .pre .0, (m-small (c .before .args .kind) (c .before .args .m) (c .before .pre .1 .0), (fork-fits (c .before .args .kind) (c .before .args .m) (c .before .args .reg) (c .match .keys2) (c .before .pre .1 .1 .0), c .before .pre .1 .1 .1 .fork (c .match .keys2))))
+next-fork-requires c κs = (c .before .pre .0, (m-two 4 (c .before .args .kind) (c .before .args .m) (c .match .keys2) refl (c .before .pre .1 .0), (m-small (c .before .args .kind) (c .before .args .m) (c .before .pre .1 .0), (fork-fits (c .before .args .kind) (c .before .args .m) (c .before .args .reg) (c .match .keys2) (c .before .pre .1 .1 .0), copied-quiet (c .before .args .m) (c .before .args .reg .marks) (c .before .args .rows .now) (c .before .args .base) (c .before .args .valid .now) (c .before .pre .1 .1 .1 .fork (c .match .keys2))))))
 
 next-merge-requires : tie.Need-next-merge-requires
 next-merge-requires c κs = (c .before .pre .0, (m-small (c .before .args .kind) (c .before .args .m) (c .before .pre .1 .0), (merge-fits (c .before .args .kind) (c .before .args .m) (c .before .args .reg) (c .match .keys3) (c .before .pre .1 .1 .0) .0, (merge-fits (c .before .args .kind) (c .before .args .m) (c .before .args .reg) (c .match .keys3) (c .before .pre .1 .1 .0) .1, c .before .pre .1 .1 .1 .merge (c .match .keys3)))))

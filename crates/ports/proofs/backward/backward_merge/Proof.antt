@@ -30,7 +30,7 @@ won-by-requires : tie.Need-won-by-requires
 won-by-requires c κs = search needs
 
 gone-with-requires : tie.Need-gone-with-requires
-gone-with-requires c κs = (c .before .before .before .pre .0, (omega arith, (omega (arith, c .before .before .before .pre .1 .1 .0), (c .before .before .before .pre .1 .1 .1 .1 .0, c .before .before .before .pre .1 .1 .1 .1 .1 .0))))
+gone-with-requires c κs = (c .before .before .before .pre .0, (omega arith, (omega arith, (omega (arith, c .before .before .before .pre .1 .1 .1 .0), (c .before .before .before .pre .1 .1 .1 .1 .1 .0, c .before .before .before .pre .1 .1 .1 .1 .1 .1 .0)))))
 
 fork-ready-requires : tie.Need-fork-ready-requires
 fork-ready-requires c κs = search needs
@@ -41,8 +41,8 @@ less-one-requires c κs = search needs
 ready-chosen-requires : tie.Need-ready-chosen-requires
 ready-chosen-requires c κs =
     let a = c .before .before .before .before .before .before .before .args in
-    let own = c .before .before .before .before .before .before .before .pre .1 .1 .1 .1 .1 .1 in
-    (c .before .before .before .before .before .before .before .pre .0, (c .before .before .before .before .before .before .before .pre .1 .0, (omega (arith, c .before .before .before .before .before .before .before .pre .1 .1 .0), λ i j hi hj e. own i j hi hj (at-zero (a .rows .now) (a .base) i ∙ e ∙ sym (at-zero (a .rows .now) (a .base) j)))))
+    let own = c .before .before .before .before .before .before .before .pre .1 .1 .1 .1 .1 .1 .1 in
+    (c .before .before .before .before .before .before .before .pre .0, (c .before .before .before .before .before .before .before .pre .1 .0, (c .before .before .before .before .before .before .before .pre .1 .1 .0, (omega (arith, c .before .before .before .before .before .before .before .pre .1 .1 .1 .0), λ i j hi hj e. own i j hi hj (at-zero (a .rows .now) (a .base) i ∙ e ∙ sym (at-zero (a .rows .now) (a .base) j))))))
 
 returns : tie.Need-returns
 returns c =

@@ -48,8 +48,8 @@ ready-port-requires c κs = search needs
 
 ready-chosen-requires : tie.Need-ready-chosen-requires
 ready-chosen-requires c κs =
-    let own = c .before .before .before .before .before .before .before .before .before .pre .1 .1 .1 in
-    (c .before .before .before .before .before .before .before .before .before .pre .0, (c .before .ready-port .ensures .1, (omega (arith, c .before .before .before .before .before .before .before .before .before .pre .1 .1 .0), λ i j hi hj e. less (own (1 + i) (1 + j) (omega arith) (omega arith) e))))
+    let own = c .before .before .before .before .before .before .before .before .before .pre .1 .1 .1 .1 in
+    (c .before .before .before .before .before .before .before .before .before .pre .0, (c .before .ready-port .ensures .1, (c .before .before .before .before .before .before .before .before .before .pre .1 .1 .0, (omega (arith, c .before .before .before .before .before .before .before .before .before .pre .1 .1 .1 .0), λ i j hi hj e. less (own (1 + i) (1 + j) (omega arith) (omega arith) e)))))
 
 returns : tie.Need-returns
 returns c =
@@ -61,7 +61,7 @@ returns c =
     let o : Option ℕ = reach (a .m) (c .before .before .before .before .before .before .before .before .look .result .word) in (
       λ mask r.
           first-and-more (mux (a .m)) mask r (a .rows .now) (a .base) (sigAt (a .valid .now) (a .word .now)) _ (c .before .before .before .before .before .moved .result) (λ j. c .before .before .before .before .before .moved .result && eqb j (c .before .before .before .before .port-of .result)) (a .m) _ _ refl
-          (c .before .before .before .before .before .before .before .before .before .before .pre .1 .1 .1) (c .before .before .ready-port .ensures .0) (c .ready-chosen .ensures .0) g
+          (c .before .before .before .before .before .before .before .before .before .before .pre .1 .1 .1 .1) (c .before .before .ready-port .ensures .0) (c .ready-chosen .ensures .0) g
           (λ i h.
           ap₂ _&&_ g (ap (eqb i) (c .before .before .before .before .port-of .ensures) ∙ sym (named-number (a .m) i o h)
           ∙ ap (λ (z : Sig). named (reach (a .m) (z .word)) (eqb i)) s)),

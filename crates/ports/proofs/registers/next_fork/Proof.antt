@@ -11,7 +11,7 @@ use Rattle.ports.proofs.registers.next_fork.Statement.{statement}
 use Rattle.ports.proofs.registers.next_fork.Tie as tie
 
 gone-with-requires : tie.Need-gone-with-requires
-gone-with-requires c κs = (c .pre .0, (c .pre .1 .0, (omega (arith, c .pre .1 .0), (c .pre .1 .1 .0, c .pre .1 .1 .1))))
+gone-with-requires c κs = (c .pre .0, (c .pre .1 .0, (c .pre .1 .1 .0, (omega (arith, c .pre .1 .1 .0), (c .pre .1 .1 .1 .0, c .pre .1 .1 .1 .1)))))
 
 place-requires : tie.Need-place-requires
 place-requires c κs = search needs

@@ -22,7 +22,7 @@ won-by-requires : tie.Need-won-by-requires
 won-by-requires c κs = search needs
 
 gone-with-requires : tie.Need-gone-with-requires
-gone-with-requires c κs = (c .before .before .pre .0, (omega arith, (omega (arith, c .before .before .pre .1 .0), (c .before .before .pre .1 .1 .1 .0, c .before .before .pre .1 .1 .1 .1))))
+gone-with-requires c κs = (c .before .before .pre .0, (omega arith, (omega arith, (omega (arith, c .before .before .pre .1 .0), (c .before .before .pre .1 .1 .1 .0, c .before .before .pre .1 .1 .1 .1)))))
 
 fork-ready-requires : tie.Need-fork-ready-requires
 fork-ready-requires c κs = search needs

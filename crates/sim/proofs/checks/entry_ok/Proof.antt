@@ -11,11 +11,14 @@ use Rattle.sim.proofs.checks.entry_ok.Tie as tie
 mul-row : tie.Need-mul-row
 mul-row c = search needs
 
+add-reg-ok : tie.Need-add-reg-ok
+add-reg-ok c = search needs
+
 element-copy-out-reg-ok : tie.Need-element-copy-out-reg-ok
 element-copy-out-reg-ok c = search needs
 
-add-reg-ok : tie.Need-add-reg-ok
-add-reg-ok c = search needs
+add-reg-ok-2 : tie.Need-add-reg-ok-2
+add-reg-ok-2 c = search needs
 
 element-copy-out-reg-ok-2 : tie.Need-element-copy-out-reg-ok-2
 element-copy-out-reg-ok-2 c = search needs
@@ -37,8 +40,9 @@ entry-ok-spec =
     tie.close
     (tie.spec
     mul-row
-    element-copy-out-reg-ok
     add-reg-ok
+    element-copy-out-reg-ok
+    add-reg-ok-2
     element-copy-out-reg-ok-2
     reg-ok-requires
     returns

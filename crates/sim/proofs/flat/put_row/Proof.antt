@@ -14,31 +14,34 @@ use Rattle.sim.proofs.flat.put_row.Tie as tie
 
 abbrev Inv-loop : tie.InvT-loop
 Inv-loop b rows₀ block row i₀ rows i =
-    (i ≤ 10) × (length rows ≡ 768) × ((j : ℕ) → j < i → getD rows (row + 2 + j) 0 ≡ getD (block .ports) j 0)
-    × ((k : ℕ) → (k < row + 2) ⊎ (row + 12 ≤ k) → getD rows k 0 ≡ getD rows₀ k 0)
+    (i ≤ 10) × (length rows ≡ 768) × ((j : ℕ) → j < i → getD rows (row + j) 0 ≡ getD (block .ports) j 0)
+    × ((k : ℕ) → (k < row) ⊎ (row + 10 ≤ k) → getD rows k 0 ≡ getD rows₀ k 0)
 
 abbrev μ-loop : tie.MeasureT-loop
 μ-loop b rows₀ block row i₀ rows i = 10 - i
 
-off : (row k : ℕ) → (k < row) ⊎ (row + 12 ≤ k) → (k ≡ row → ⊥) × (k ≡ row + 1 → ⊥)
+off : (row k : ℕ) → (k < row) ⊎ (row + 12 ≤ k) → (k ≡ row + 10 → ⊥) × (k ≡ row + 11 → ⊥)
 off row k (inl l) = ((λ e. omega arith), λ e. omega arith)
 off row k (inr l) = ((λ e. omega arith), λ e. omega arith)
 
-near : (row k : ℕ) → (k < row) ⊎ (row + 12 ≤ k) → (k < row + 2) ⊎ (row + 12 ≤ k)
-near row k (inl l) = inl (omega arith)
-near row k (inr l) = inr l
+near : (row k : ℕ) → (k < row) ⊎ (row + 12 ≤ k) → (k < row) ⊎ (row + 10 ≤ k)
+near row k (inl l) = inl l
+near row k (inr l) = inr (omega arith)
 
 mul-row : tie.Need-mul-row Inv-loop μ-loop
-mul-row c = omega (arith, c .pre .0)
+mul-row c = omega (arith, c .pre .0, c .pre .1)
+
+add-rows : tie.Need-add-rows Inv-loop μ-loop
+add-rows c = omega (arith, c .pre .0, c .pre .1)
 
 element-write-rows : tie.Need-element-write-rows Inv-loop μ-loop
 element-write-rows c = omega (arith, c .pre .0, c .pre .1)
 
-add-rows : tie.Need-add-rows Inv-loop μ-loop
-add-rows c = omega (arith, c .pre .0)
+add-rows-2 : tie.Need-add-rows-2 Inv-loop μ-loop
+add-rows-2 c = omega (arith, c .pre .0, c .pre .1)
 
 element-write-rows-2 : tie.Need-element-write-rows-2 Inv-loop μ-loop
-element-write-rows-2 c = omega (arith, c .pre .0)
+element-write-rows-2 c = omega (arith, c .pre .0, c .pre .1)
 
 loop-holds : tie.Need-loop-holds Inv-loop μ-loop
 loop-holds c = (omega arith, simp length-set (c .pre .1), below-none _, λ k h. refl)
@@ -46,11 +49,8 @@ loop-holds c = (omega arith, simp length-set (c .pre .1), below-none _, λ k h. 
 element-copy-out-rows : tie.Need-element-copy-out-rows Inv-loop μ-loop
 element-copy-out-rows c = omega arith
 
-add-rows-2 : tie.Need-add-rows-2 Inv-loop μ-loop
-add-rows-2 c = omega (arith, c .before .before .before .pre .0)
-
 add-rows-3 : tie.Need-add-rows-3 Inv-loop μ-loop
-add-rows-3 c = omega (arith, c .before .before .before .pre .0)
+add-rows-3 c = omega (arith, c .before .before .before .pre .0, c .before .before .before .pre .1)
 
 element-write-rows-3 : tie.Need-element-write-rows-3 Inv-loop μ-loop
 element-write-rows-3 c = omega (arith, c .before .before .before .pre .0, c .before .before .loop .inv .1)
@@ -65,12 +65,12 @@ loop-again : tie.Need-loop-again Inv-loop μ-loop
 loop-again c =
     let l = c .before .before .loop in
     let a = c .before .before .before .args in
-    let at : ℕ = a .b * 12 + 2 + l .i in
+    let at : ℕ = a .b * 12 + l .i in
     let v : ℕ = getD (a .t2 .ports) (l .i) 0 in (
       omega arith,
       length-set (l .rows) at v ∙ l .inv .1,
-      below-more (λ j. getD (set (l .rows) at v) (a .b * 12 + 2 + j) 0 ≡ getD (a .t2 .ports) j 0) (l .i)
-          (λ j lj. getD-set-other (l .rows) at (a .b * 12 + 2 + j) v 0 (λ e. omega arith) ∙ l .inv .2 j lj)
+      below-more (λ j. getD (set (l .rows) at v) (a .b * 12 + j) 0 ≡ getD (a .t2 .ports) j 0) (l .i)
+          (λ j lj. getD-set-other (l .rows) at (a .b * 12 + j) v 0 (λ e. omega arith) ∙ l .inv .2 j lj)
           (getD-set-same (l .rows) at v 0 (omega (arith, c .before .before .before .pre .0, l .inv .1))),
       λ k h. getD-set-other (l .rows) at k v 0 (off-row (a .b * 12) (l .i) k (omega arith) h) ∙ l .inv .3 k h,
     )
@@ -81,17 +81,17 @@ returns c =
     let a = c .before .before .args in
     let old = a .rows .now in
     let row : ℕ = a .b * 12 in
-    let once : List ℕ = set old row (a .t2 .kind) in
+    let once : List ℕ = set old (row + 10) (a .t2 .kind) in
     let all : l .i ≡ 10 = omega arith in
     record {
       row =
           record {
-            kind-is = l .inv .3 row (inl (omega arith)) ∙ getD-set-other once (row + 1) row (a .t2 .m) 0 (λ e. omega arith) ∙ getD-set-same old row (a .t2 .kind) 0 (omega (arith, c .before .before .pre .0, c .before .before .pre .1));
-            m-is = l .inv .3 (row + 1) (inl (omega arith)) ∙ getD-set-same once (row + 1) (a .t2 .m) 0 (simp length-set (omega (arith, c .before .before .pre .0, c .before .before .pre .1)));
+            kind-is = l .inv .3 (row + 10) (inr (omega arith)) ∙ getD-set-other once (row + 11) (row + 10) (a .t2 .m) 0 (λ e. omega arith) ∙ getD-set-same old (row + 10) (a .t2 .kind) 0 (omega (arith, c .before .before .pre .0, c .before .before .pre .1));
+            m-is = l .inv .3 (row + 11) (inr (omega arith)) ∙ getD-set-same once (row + 11) (a .t2 .m) 0 (simp length-set (omega (arith, c .before .before .pre .0, c .before .before .pre .1)));
             port-is = λ i h. l .inv .2 i (omega arith);
           };
       others =
-          λ k h. l .inv .3 k (near row k h) ∙ getD-set-other once (row + 1) k (a .t2 .m) 0 (off row k h .1) ∙ getD-set-other old row k (a .t2 .kind) 0 (off row k h .0);
+          λ k h. l .inv .3 k (near row k h) ∙ getD-set-other once (row + 11) k (a .t2 .m) 0 (off row k h .1) ∙ getD-set-other old (row + 10) k (a .t2 .kind) 0 (off row k h .0);
       long = l .inv .1;
     }
 
@@ -102,12 +102,12 @@ put-row-spec =
     Inv-loop
     μ-loop
     mul-row
-    element-write-rows
     add-rows
+    element-write-rows
+    add-rows-2
     element-write-rows-2
     loop-holds
     element-copy-out-rows
-    add-rows-2
     add-rows-3
     element-write-rows-3
     add-i

@@ -40,8 +40,17 @@ returns c =
     let bad = sym (shape-same (a .net) rows values flat (a .state)) ∙ sym (c .before .before .shape-ok .ensures) ∙ not-true _ (c .before .if1 .taken) in
     c .refused .ensures ∙ refused-13 (a .net) (a .state) (a .stream .now) (a .ends .now) (a .offer) (a .ready) bad
 
-list-kind-requires : tie.Need-list-kind-requires
-list-kind-requires c κs = size-high (c .before .before .before .before .before .before .before .before .before .before .args .net) (c .before .before .before .before .before .before .before .before .before .before .pre .fields)
+sort-kinds-requires : tie.Need-sort-kinds-requires
+sort-kinds-requires c κs =
+    let a = c .before .before .before .before .before .before .before .before .before .before .args in
+    let p = c .before .before .before .before .before .before .before .before .before .before .pre in
+    let rows = c .before .before .before .before .flatten .last .1 .1 .0 in
+    let values = c .before .before .before .before .flatten .last .1 .1 .1 .0 in
+    let flat = c .before .before .before .before .flatten .ensures in
+    rowed (a .net) rows values flat (p .fields) (p .joins) (a .stream .now) (a .ends .now)
+
+element-copy-out-ends-fit : tie.Need-element-copy-out-ends-fit
+element-copy-out-ends-fit c = omega arith
 
 slice-aggregate-ends-fit : tie.Need-slice-aggregate-ends-fit
 slice-aggregate-ends-fit c = search needs
@@ -55,13 +64,13 @@ refused-requires-2 c κs = search needs
 returns-2 : tie.Need-returns-2
 unfolding numbersOf
 returns-2 c =
-    let a = c .before .before .before .before .before .before .before .before .before .before .before .before .before .before .before .args in
-    let p = c .before .before .before .before .before .before .before .before .before .before .before .before .before .before .before .pre in
-    let rows = c .before .before .before .before .before .before .before .before .before .flatten .last .1 .1 .0 in
-    let values = c .before .before .before .before .before .before .before .before .before .flatten .last .1 .1 .1 .0 in
-    let flat = c .before .before .before .before .before .before .before .before .before .flatten .ensures in
-    let ok = sym (shape-same (a .net) rows values flat (a .state)) ∙ sym (c .before .before .before .before .before .before .before .shape-ok .ensures) ∙ not-false _ (c .before .before .before .before .before .before .if1 .left) in
-    let bad = sym (fit-same (a .net) rows values flat (a .stream .now) (a .ends .now) (p .fields) (p .joins) _ _ (c .before .before .before .before .list-kind .ensures)) ∙ sym (c .before .before .ends-fit .ensures) ∙ not-true _ (c .before .if2 .taken) in
+    let a = c .before .before .before .before .before .before .before .before .before .before .before .before .before .before .before .before .args in
+    let p = c .before .before .before .before .before .before .before .before .before .before .before .before .before .before .before .before .pre in
+    let rows = c .before .before .before .before .before .before .before .before .before .before .flatten .last .1 .1 .0 in
+    let values = c .before .before .before .before .before .before .before .before .before .before .flatten .last .1 .1 .1 .0 in
+    let flat = c .before .before .before .before .before .before .before .before .before .before .flatten .ensures in
+    let ok = sym (shape-same (a .net) rows values flat (a .state)) ∙ sym (c .before .before .before .before .before .before .before .before .shape-ok .ensures) ∙ not-false _ (c .before .before .before .before .before .before .before .if1 .left) in
+    let bad = sym (fit-same (a .net) rows values flat (a .stream .now) (a .ends .now) (p .fields) (p .joins) _ _ (c .before .before .before .before .before .sort-kinds .ensures 0 (omega arith))) ∙ sym (c .before .before .ends-fit .ensures) ∙ not-true _ (c .before .if2 .taken) in
     c .refused2 .ensures ∙ refused-14 (a .net) (a .state) (a .stream .now) (a .ends .now) (a .offer) (a .ready) ok bad
 
 refused-requires-3 : tie.Need-refused-requires-3
@@ -70,40 +79,37 @@ refused-requires-3 c κs = search needs
 returns-3 : tie.Need-returns-3
 unfolding numbersOf
 returns-3 c =
-    let a = c .before .before .before .before .before .before .before .before .before .before .before .before .before .before .before .before .before .args in
-    let p = c .before .before .before .before .before .before .before .before .before .before .before .before .before .before .before .before .before .pre in
-    let rows = c .before .before .before .before .before .before .before .before .before .before .before .flatten .last .1 .1 .0 in
-    let values = c .before .before .before .before .before .before .before .before .before .before .before .flatten .last .1 .1 .1 .0 in
-    let flat = c .before .before .before .before .before .before .before .before .before .before .before .flatten .ensures in
-    let ok = sym (shape-same (a .net) rows values flat (a .state)) ∙ sym (c .before .before .before .before .before .before .before .before .before .shape-ok .ensures) ∙ not-false _ (c .before .before .before .before .before .before .before .before .if1 .left) in
-    let fit = sym (fit-same (a .net) rows values flat (a .stream .now) (a .ends .now) (p .fields) (p .joins) _ _ (c .before .before .before .before .before .before .list-kind .ensures)) ∙ sym (c .before .before .before .before .ends-fit .ensures) ∙ not-false _ (c .before .before .before .if2 .left) in
+    let a = c .before .before .before .before .before .before .before .before .before .before .before .before .before .before .before .before .before .before .args in
+    let p = c .before .before .before .before .before .before .before .before .before .before .before .before .before .before .before .before .before .before .pre in
+    let rows = c .before .before .before .before .before .before .before .before .before .before .before .before .flatten .last .1 .1 .0 in
+    let values = c .before .before .before .before .before .before .before .before .before .before .before .before .flatten .last .1 .1 .1 .0 in
+    let flat = c .before .before .before .before .before .before .before .before .before .before .before .before .flatten .ensures in
+    let ok = sym (shape-same (a .net) rows values flat (a .state)) ∙ sym (c .before .before .before .before .before .before .before .before .before .before .shape-ok .ensures) ∙ not-false _ (c .before .before .before .before .before .before .before .before .before .if1 .left) in
+    let fit = sym (fit-same (a .net) rows values flat (a .stream .now) (a .ends .now) (p .fields) (p .joins) _ _ (c .before .before .before .before .before .before .before .sort-kinds .ensures 0 (omega arith))) ∙ sym (c .before .before .before .before .ends-fit .ensures) ∙ not-false _ (c .before .before .before .if2 .left) in
     c .refused3 .ensures ∙ refused-16 (a .net) (a .state) (a .stream .now) (a .ends .now) (a .offer) (a .ready) ok fit (c .before .if3 .taken)
-
-list-kind-requires-2 : tie.Need-list-kind-requires-2
-list-kind-requires-2 c κs = size-high (c .before .before .before .before .before .before .before .before .before .before .before .before .before .before .before .before .before .args .net) (c .before .before .before .before .before .before .before .before .before .before .before .before .before .before .before .before .before .pre .fields)
 
 work-requires : tie.Need-work-requires
 unfolding numbersOf
 work-requires c κs =
+    let a = c .before .before .before .before .before .before .before .before .before .before .before .before .before .before .before .before .before .before .before .args in
+    let p = c .before .before .before .before .before .before .before .before .before .before .before .before .before .before .before .before .before .before .before .pre in
+    let rows = c .before .before .before .before .before .before .before .before .before .before .before .before .before .flatten .last .1 .1 .0 in
+    let values = c .before .before .before .before .before .before .before .before .before .before .before .before .before .flatten .last .1 .1 .1 .0 in
+    let flat = c .before .before .before .before .before .before .before .before .before .before .before .before .before .flatten .ensures in
+    let ok = sym (shape-same (a .net) rows values flat (a .state)) ∙ sym (c .before .before .before .before .before .before .before .before .before .before .before .shape-ok .ensures) ∙ not-false _ (c .before .before .before .before .before .before .before .before .before .before .if1 .left) in
+    let fit = sym (fit-same (a .net) rows values flat (a .stream .now) (a .ends .now) (p .fields) (p .joins) _ _ (c .before .before .before .before .before .before .before .before .sort-kinds .ensures 0 (omega arith))) ∙ sym (c .before .before .before .before .before .ends-fit .ensures) ∙ not-false _ (c .before .before .before .before .if2 .left) in
+    (p, (flat, (c .before .before .before .before .before .before .before .before .sort-kinds .ensures, ((ok, omega arith), fit))))
+
+returns-4 : tie.Need-returns-4
+unfolding numbersOf
+returns-4 c =
     let a = c .before .before .before .before .before .before .before .before .before .before .before .before .before .before .before .before .before .before .before .before .args in
     let p = c .before .before .before .before .before .before .before .before .before .before .before .before .before .before .before .before .before .before .before .before .pre in
     let rows = c .before .before .before .before .before .before .before .before .before .before .before .before .before .before .flatten .last .1 .1 .0 in
     let values = c .before .before .before .before .before .before .before .before .before .before .before .before .before .before .flatten .last .1 .1 .1 .0 in
     let flat = c .before .before .before .before .before .before .before .before .before .before .before .before .before .before .flatten .ensures in
     let ok = sym (shape-same (a .net) rows values flat (a .state)) ∙ sym (c .before .before .before .before .before .before .before .before .before .before .before .before .shape-ok .ensures) ∙ not-false _ (c .before .before .before .before .before .before .before .before .before .before .before .if1 .left) in
-    let fit = sym (fit-same (a .net) rows values flat (a .stream .now) (a .ends .now) (p .fields) (p .joins) _ _ (c .before .before .before .before .before .before .before .before .before .list-kind .ensures)) ∙ sym (c .before .before .before .before .before .before .before .ends-fit .ensures) ∙ not-false _ (c .before .before .before .before .before .before .if2 .left) in
-    (p, (flat, ((c .before .before .before .before .before .before .before .before .before .list-kind .ensures, c .before .before .list-kind2 .ensures), ((ok, omega arith), fit))))
-
-returns-4 : tie.Need-returns-4
-unfolding numbersOf
-returns-4 c =
-    let a = c .before .before .before .before .before .before .before .before .before .before .before .before .before .before .before .before .before .before .before .before .before .args in
-    let p = c .before .before .before .before .before .before .before .before .before .before .before .before .before .before .before .before .before .before .before .before .before .pre in
-    let rows = c .before .before .before .before .before .before .before .before .before .before .before .before .before .before .before .flatten .last .1 .1 .0 in
-    let values = c .before .before .before .before .before .before .before .before .before .before .before .before .before .before .before .flatten .last .1 .1 .1 .0 in
-    let flat = c .before .before .before .before .before .before .before .before .before .before .before .before .before .before .before .flatten .ensures in
-    let ok = sym (shape-same (a .net) rows values flat (a .state)) ∙ sym (c .before .before .before .before .before .before .before .before .before .before .before .before .before .shape-ok .ensures) ∙ not-false _ (c .before .before .before .before .before .before .before .before .before .before .before .before .if1 .left) in
-    let fit = sym (fit-same (a .net) rows values flat (a .stream .now) (a .ends .now) (p .fields) (p .joins) _ _ (c .before .before .before .before .before .before .before .before .before .before .list-kind .ensures)) ∙ sym (c .before .before .before .before .before .before .before .before .ends-fit .ensures) ∙ not-false _ (c .before .before .before .before .before .before .before .if2 .left) in
+    let fit = sym (fit-same (a .net) rows values flat (a .stream .now) (a .ends .now) (p .fields) (p .joins) _ _ (c .before .before .before .before .before .before .before .before .before .sort-kinds .ensures 0 (omega arith))) ∙ sym (c .before .before .before .before .before .before .ends-fit .ensures) ∙ not-false _ (c .before .before .before .before .before .if2 .left) in
     c .work .ensures ∙ not-refused (a .net) (a .state) (a .stream .now) (a .ends .now) (a .offer) (a .ready) ok fit (omega arith)
 
 pub step-accepted-spec : {M : Type 1} → statement M
@@ -115,13 +121,13 @@ step-accepted-spec =
     shape-ok-requires
     refused-requires
     returns
-    list-kind-requires
+    sort-kinds-requires
+    element-copy-out-ends-fit
     slice-aggregate-ends-fit
     ends-fit-requires
     refused-requires-2
     returns-2
     refused-requires-3
     returns-3
-    list-kind-requires-2
     work-requires
     returns-4)
