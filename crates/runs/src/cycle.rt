@@ -34,7 +34,6 @@ pub fn cycle<'a>(
     count: u32,
     words: &mut [u32; 64],
     marks: &mut [u8; 64],
-    front: &mut [u32; 64],
     valid: &mut [bool; 128],
     word: &mut [u32; 128],
     ready: &mut [bool; 128],
@@ -47,12 +46,12 @@ pub fn cycle<'a>(
     requires { ⌜ Kinds (now rows) n (now counts) (now lists) ⌝ }
     requires { ⌜ Shaped (now rows) n (now words) (now marks) ⌝ }
     requires { ⌜ Fitting (getD (now counts) 0 0) (length (given (now bytes) (now stream))) (given (now «end_bytes») (now ends)) ⌝ }
-    requires { ⌜ (Sized (now valid) (now word)) × (length (now ready) ≡ 128) × (length (now front) ≡ 64) ⌝ }
+    requires { ⌜ (Sized (now valid) (now word)) × (length (now ready) ≡ 128) ⌝ }
     requires { ⌜ (length (now words) ≡ 64) × (length (now marks) ≡ 64) × (length (now list) ≡ 128) ⌝ }
     requires { ⌜ (channels ≤ 128) × (count ≤ 1048576) ⌝ }
     ensures { λ _. ⌜ Worked (now (rows .entry)) (now (values .entry)) n (streamAt (now (rows .entry)) (given (now (bytes .entry)) (now (stream .entry))) (given (now («end_bytes» .entry)) (now (ends .entry)))) (maskAt (now (rows .entry)) offer mask) (regIn (now (words .entry)) (now (marks .entry))) (sigAt (now (valid .exit)) (now (word .exit))) (readyAt (now (ready .exit))) ⌝ }
     ensures { λ r. ⌜ (NoRoom (recordsOf count (now (valid .exit)) (now (ready .exit)) (now (word .exit)) channels) (now (words .entry)) (now (marks .entry)) (now (out .entry)) r (now (words .exit)) (now (marks .exit)) (now (out .exit))) ⊎ (Went n (nextNo (now (rows .entry)) (now (values .entry)) (streamAt (now (rows .entry)) (given (now (bytes .entry)) (now (stream .entry))) (given (now («end_bytes» .entry)) (now (ends .entry)))) (maskAt (now (rows .entry)) offer mask) (regIn (now (words .entry)) (now (marks .entry))) (sigAt (now (valid .exit)) (now (word .exit))) (readyAt (now (ready .exit)))) (recordsOf count (now (valid .exit)) (now (ready .exit)) (now (word .exit)) channels) (now (words .entry)) (now (marks .entry)) (now (out .entry)) r (now (words .exit)) (now (marks .exit)) (now (out .exit))) ⌝ }
-    ensures { λ _. ⌜ (Sized (now (valid .exit)) (now (word .exit))) × (length (now (ready .exit)) ≡ 128) × (length (now (list .exit)) ≡ 128) × (length (now (front .exit)) ≡ 64) ⌝ }
+    ensures { λ _. ⌜ (Sized (now (valid .exit)) (now (word .exit))) × (length (now (ready .exit)) ≡ 128) × (length (now (list .exit)) ≡ 128) ⌝ }
 {
     sim::wires::wires(
         n,
@@ -72,7 +71,6 @@ pub fn cycle<'a>(
         mask,
         words,
         marks,
-        front,
         valid,
         word,
         ready,

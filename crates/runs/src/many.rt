@@ -75,7 +75,6 @@ fn run_cycles(
     let lists = sorted.lists;
     let mut words = state.words;
     let mut marks = state.marks;
-    let mut front = [0u32; 64];
     let mut valid = [false; 128];
     let mut word = [0u32; 128];
     let mut taken = [false; 128];
@@ -105,7 +104,6 @@ fn run_cycles(
             state.count + i as u32,
             &mut words,
             &mut marks,
-            &mut front,
             &mut valid,
             &mut word,
             &mut taken,

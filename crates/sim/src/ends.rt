@@ -30,7 +30,7 @@ fn word_at(p: u32, start: u32, len: u32, bytes: &[u8], stream: &[u32]) -> u32
     }
 }
 
-// Offers the word of one source, whose stream runs from `start` to `end`, and gives the word that was read.
+// Offers the word of one source, whose stream runs from `start` to `end`.
 fn offer_one(
     reg: Reg,
     start: u32,
@@ -42,7 +42,7 @@ fn offer_one(
     rows: &[u8; 768],
     valid: &mut [bool; 128],
     word: &mut [u32; 128],
-) -> u32
+)
     requires { ⌜ Ported (now rows) base ⌝ }
     requires { ⌜ Sized (now valid) (now word) ⌝ }
     requires { ⌜ (start ≤ end) × (end ≤ length (given (now bytes) (now stream))) ⌝ }
@@ -53,11 +53,9 @@ fn offer_one(
     let v = blocks::cycle::source_offers(reg, len, offer);
     let w = word_at(reg.word, start, len, bytes, stream);
     ports::forward::put_port(0, blocks::cycle::show(v, w), base, rows, valid, word);
-    w
 }
 
-// Every source offers its word. The mask is halved along the sources. The words that were read are kept in `front`, so that the compiler reads them without a branch on
-// whether they are offered.
+// Every source offers its word. The mask is halved along the sources.
 pub fn offer_sources(
     count: usize,
     sources: &[u8; 704],
@@ -69,15 +67,14 @@ pub fn offer_sources(
     end_bytes: &[u8],
     ends: &[u32],
     offer: u32,
-    front: &mut [u32; 64],
     valid: &mut [bool; 128],
     word: &mut [u32; 128],
 )
     requires { ⌜ Among (now rows) 0 count (λ k. getD (now sources) k 0) ⌝ }
     requires { ⌜ Fitting count (length (given (now bytes) (now stream))) (given (now «end_bytes») (now ends)) ⌝ }
-    requires { ⌜ (Sized (now valid) (now word)) × (length (now front) ≡ 64) ⌝ }
+    requires { ⌜ Sized (now valid) (now word) ⌝ }
     ensures { λ _. ⌜ ((values : List ℕ) (ready k : ℕ) → k < count → Holds (ahead (now (rows .entry)) values (streamAt (now (rows .entry)) (given (now (bytes .entry)) (now (stream .entry))) (given (now («end_bytes» .entry)) (now (ends .entry)))) (maskAt (now (rows .entry)) offer ready) (regIn (now (words .entry)) (now (marks .entry))) (getD (now (sources .entry)) k 0)) (sigAt (now (valid .exit)) (now (word .exit)))) ⌝ }
-    ensures { λ _. ⌜ (Sized (now (valid .exit)) (now (word .exit))) × (length (now (front .exit)) ≡ 64) ⌝ }
+    ensures { λ _. ⌜ Sized (now (valid .exit)) (now (word .exit)) ⌝ }
 {
     let mut rest = offer;
     let mut start: u32 = 0;
@@ -89,7 +86,7 @@ pub fn offer_sources(
             word: words[b],
             marks: marks[b],
         };
-        front[k] = offer_one(
+        offer_one(
             reg,
             start,
             end,

@@ -109,7 +109,6 @@ fn work(
     let lists = sorted.lists;
     let mut words = state.words;
     let mut marks = state.marks;
-    let mut front = [0u32; 64];
     let mut valid = [false; 128];
     let mut word = [0u32; 128];
     let mut taken = [false; 128];
@@ -131,7 +130,6 @@ fn work(
         ready,
         &words,
         &marks,
-        &mut front,
         &mut valid,
         &mut word,
         &mut taken,

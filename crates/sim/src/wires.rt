@@ -38,7 +38,6 @@ pub fn wires<'a>(
     mask: u32,
     words: &[u32; 64],
     marks: &[u8; 64],
-    front: &mut [u32; 64],
     valid: &mut [bool; 128],
     word: &mut [u32; 128],
     ready: &mut [bool; 128],
@@ -49,10 +48,10 @@ pub fn wires<'a>(
     requires { ⌜ Kinds (now rows) n (now counts) (now lists) ⌝ }
     requires { ⌜ Shaped (now rows) n (now words) (now marks) ⌝ }
     requires { ⌜ Fitting (getD (now counts) 0 0) (length (given (now bytes) (now stream))) (given (now «end_bytes») (now ends)) ⌝ }
-    requires { ⌜ (Sized (now valid) (now word)) × (length (now ready) ≡ 128) × (length (now front) ≡ 64) ⌝ }
+    requires { ⌜ (Sized (now valid) (now word)) × (length (now ready) ≡ 128) ⌝ }
     ensures { λ _. ⌜ Worked (now (rows .entry)) (now (values .entry)) n (streamAt (now (rows .entry)) (given (now (bytes .entry)) (now (stream .entry))) (given (now («end_bytes» .entry)) (now (ends .entry)))) (maskAt (now (rows .entry)) offer mask) (regIn (now (words .entry)) (now (marks .entry))) (sigAt (now (valid .exit)) (now (word .exit))) (readyAt (now (ready .exit))) ⌝ }
     ensures { λ _. ⌜ AllSettled (now (rows .entry)) n (regIn (now (words .entry)) (now (marks .entry))) (now (valid .exit)) (now (word .exit)) ⌝ }
-    ensures { λ _. ⌜ (Sized (now (valid .exit)) (now (word .exit))) × (length (now (ready .exit)) ≡ 128) × (length (now (front .exit)) ≡ 64) ⌝ }
+    ensures { λ _. ⌜ (Sized (now (valid .exit)) (now (word .exit))) × (length (now (ready .exit)) ≡ 128) ⌝ }
 {
     offer_sources(
         counts[0],
@@ -65,7 +64,6 @@ pub fn wires<'a>(
         end_bytes,
         ends,
         offer,
-        front,
         valid,
         word,
     );

@@ -1,11 +1,11 @@
 -- `passes::ahead::forward` meets its contract: along the order; the loop's invariant is that the blocks that rest and the first i of the order have their equation.
 -- Assumes nothing.
 use mathlib.Core.Path.{_≡_}
-use Prim.Native.Nat.{ℕ, _+_, _*_, _-_, _≤_, _<_}
+use Prim.Native.Nat.{ℕ, _-_, _≤_, _<_}
 use native.Mathlib.Omega.{arith}
 use mathlib.Core.Bool.{Bool, true, false}
 use mathlib.Core.List.{List}
-use lib.ListN.{getD, length}
+use lib.ListN.{getD}
 use Rattle.ports.specs.Places.{sigAt, Sized}
 use Rattle.passes.specs.Rows.{kindNo, regIn, restsAhead, Rowed, Along}
 use Rattle.passes.specs.Pass.{Holds, Going}

@@ -1,23 +1,23 @@
 -- `passes::ahead::forward_kind` meets its contract: one of the kind after the other; the loop's invariant is that those that were done and the first i of the kind have their equation.
 -- Assumes nothing.
 use mathlib.Core.Path.{_≡_}
-use Prim.Native.Nat.{ℕ, _+_, _*_, _-_, _≤_, _<_}
+use Prim.Native.Nat.{ℕ, _+_, _-_, _≤_, _<_}
 use native.Mathlib.Omega.{arith}
-use mathlib.Core.Bool.{Bool, true, false}
+use mathlib.Core.Bool.{Bool, true}
 use mathlib.Core.List.{List}
-use lib.ListN.{getD, length}
-use mathlib.Core.Path.{sym, subst}
+use lib.ListN.{getD}
+use mathlib.Core.Path.{subst}
 use mathlib.Core.List.{[]}
 use borrow.Author.Tests.{eqb-true}
 use Rattle.blocks.specs.Kinds.{kindOf}
 use Rattle.blocks.specs.Ports.{mOk, inputsOf, outputsOf}
 use Rattle.blocks.specs.Shape.{inShape}
-use Rattle.ports.specs.Places.{portAt, Put, Apart}
+use Rattle.ports.specs.Places.{portAt, Apart}
 use Rattle.passes.proofs.Listings.{listed-few}
 use Rattle.ports.specs.Places.{sigAt, Sized}
 use Rattle.passes.specs.Rows.{kindNo, mNo, baseNo, isKindNo, inKind, regIn, restsAhead, Rowed, Listed}
-use Rattle.passes.specs.Pass.{Holds, Going, Turned}
-use Rattle.passes.specs.Passed.{ahead, aheadAt}
+use Rattle.passes.specs.Pass.{Holds, Going}
+use Rattle.passes.specs.Passed.{ahead}
 use Rattle.passes.proofs.Passes.{pass-none, pass-more, pass-all}
 use Rattle.passes.proofs.Sites.{ahead-kind}
 use Rattle.passes.proofs.Arms.{ahead-same}

@@ -1,28 +1,26 @@
 -- `passes::registers::next_kind` meets its contract: one of the kind after the other; the loop's invariant is that the first i of the kind have their next registers, and the other blocks have theirs still.
 -- Assumes nothing.
 use mathlib.Core.Path.{_≡_}
-use Prim.Native.Nat.{ℕ, _+_, _*_, _-_, _≤_, _<_}
+use Prim.Native.Nat.{ℕ, _-_, _≤_, _<_}
 use native.Mathlib.Omega.{arith}
-use mathlib.Core.Bool.{Bool, true, false}
+use mathlib.Core.Bool.{Bool, true}
 use mathlib.Core.List.{List}
 use lib.ListN.{getD, length}
 use mathlib.Core.Path.{sym, subst}
 use mathlib.Core.List.{[]}
 use borrow.Author.Tests.{eqb-true}
 use Rattle.blocks.specs.Kinds.{kindOf}
-use Rattle.blocks.specs.Ports.{mOk, inputsOf, outputsOf}
+use Rattle.blocks.specs.Ports.{mOk}
 use Rattle.blocks.specs.Shape.{inShape}
-use Rattle.ports.specs.Places.{portAt, Put, Apart}
 use Rattle.passes.proofs.Listings.{listed-few}
 use mathlib.Core.Path.{refl, ap, _∙_}
 use lib.ListN.{set, length-set}
-use native.Mathlib.Decide.{ℕ-discrete}
 use Rattle.blocks.specs.Folds.{countBelow}
 use Rattle.blocks.specs.declared.Reg.{Reg}
 use Rattle.ports.specs.Places.{sigAt, readyAt}
 use Rattle.ports.specs.Worked.{nextHere}
-use Rattle.passes.specs.Rows.{kindNo, mNo, baseNo, isKindNo, inKind, regIn, Rowed, Listed}
-use Rattle.passes.specs.Passed.{nextNo, Settled, Stepping}
+use Rattle.passes.specs.Rows.{kindNo, mNo, baseNo, isKindNo, inKind, regIn, Listed}
+use Rattle.passes.specs.Passed.{nextNo, Settled}
 use Rattle.passes.proofs.Sites.{next-here}
 use Rattle.passes.proofs.Arms.{regs-here, regs-there}
 use Rattle.passes.proofs.Listings.{listed-at}

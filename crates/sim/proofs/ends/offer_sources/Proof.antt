@@ -5,7 +5,7 @@ use Prim.Native.Nat.{ℕ, _-_, _/_, _%_, _^_, _≤_, _<_}
 use native.Mathlib.Omega.{arith}
 use mathlib.Core.Bool.{Bool}
 use lib.Dec.{eqb}
-use lib.ListN.{getD, length, length-set}
+use lib.ListN.{getD, length}
 use lib.Seq.{slice}
 use borrow.Author.Count.{below-more, below-none}
 use Rattle.ports.specs.Places.{sigAt, portAt, Sized}
@@ -23,13 +23,12 @@ use Rattle.sim.proofs.ends.offer_sources.Statement.{statement}
 use Rattle.sim.proofs.ends.offer_sources.Tie as tie
 
 abbrev Inv-loop : tie.InvT-loop
-Inv-loop count sources rows words marks bytes stream end-bytes ends offer front₀ valid₀ word₀ rest₀ start₀ k₀ front valid word rest start k =
+Inv-loop count sources rows words marks bytes stream end-bytes ends offer valid₀ word₀ rest₀ start₀ k₀ valid word rest start k =
     (k ≤ count) × (rest ≡ offer / 2 ^ k) × (start ≡ endBefore (given end-bytes ends) k) × Sized valid word
     × ((j : ℕ) → j < k → sigAt valid word (portAt rows (baseNo (getD sources j 0)) 0) ≡ sourceOut (streamNo (given bytes stream) (given end-bytes ends) j) (regIn words marks (getD sources j 0)) (bit j offer))
-    × (length front ≡ 64)
 
 abbrev μ-loop : tie.MeasureT-loop
-μ-loop count sources rows words marks bytes stream end-bytes ends offer front₀ valid₀ word₀ rest₀ start₀ k₀ front valid word rest start k = count - k
+μ-loop count sources rows words marks bytes stream end-bytes ends offer valid₀ word₀ rest₀ start₀ k₀ valid word rest start k = count - k
 
 inside : (c : tie.In-loop Inv-loop μ-loop) → getD (c .before .before .before .before .before .before .args .sources .now) (c .before .loop .k) 0 < c .before .before .before .before .before .before .pre .0 .size
 inside c = among-block _ 0 _ _ (c .before .before .before .before .before .before .pre .0) (c .before .loop .k) (omega arith)
@@ -38,7 +37,7 @@ small : (c : tie.In-loop Inv-loop μ-loop) → getD (c .before .before .before .
 small c = omega (arith, inside c, c .before .before .before .before .before .before .pre .0 .rowed .few)
 
 loop-holds : tie.Need-loop-holds Inv-loop μ-loop
-loop-holds c = (omega arith, omega arith, refl, c .before .before .before .before .pre .1 .1 .0, below-none _, c .before .before .before .before .pre .1 .1 .1)
+loop-holds c = (omega arith, omega arith, refl, c .before .before .before .before .pre .1 .1, below-none _)
 
 element-copy-out-b : tie.Need-element-copy-out-b Inv-loop μ-loop
 element-copy-out-b c = omega (arith, among-few (c .before .before .before .before .before .before .args .rows .now) 0 (c .before .before .before .before .before .before .args .count) _ (c .before .before .before .before .before .before .pre .0))
@@ -49,17 +48,17 @@ cast-b c = omega (arith, small (c .before))
 number-in-requires : tie.Need-number-in-requires Inv-loop μ-loop
 number-in-requires c κs = omega (arith, c .before .before .before .before .before .before .before .pre .1 .0 .each)
 
-mul-front : tie.Need-mul-front Inv-loop μ-loop
-mul-front c = omega (arith, small (c .before .before))
-
-element-copy-out-front : tie.Need-element-copy-out-front Inv-loop μ-loop
-element-copy-out-front c = omega (arith, small (c .before .before))
-
-element-copy-out-t23 : tie.Need-element-copy-out-t23 Inv-loop μ-loop
-element-copy-out-t23 c = omega (arith, small (c .before .before .before))
-
 mul-offer-one : tie.Need-mul-offer-one Inv-loop μ-loop
-mul-offer-one c = omega (arith, small (c .before .before .before .before))
+mul-offer-one c = omega (arith, small (c .before .before))
+
+element-copy-out-offer-one : tie.Need-element-copy-out-offer-one Inv-loop μ-loop
+element-copy-out-offer-one c = omega (arith, small (c .before .before))
+
+element-copy-out-t22 : tie.Need-element-copy-out-t22 Inv-loop μ-loop
+element-copy-out-t22 c = omega (arith, small (c .before .before .before))
+
+mul-offer-one-2 : tie.Need-mul-offer-one-2 Inv-loop μ-loop
+mul-offer-one-2 c = omega (arith, small (c .before .before .before .before))
 
 offer-one-requires : tie.Need-offer-one-requires Inv-loop μ-loop
 offer-one-requires c κs =
@@ -71,12 +70,6 @@ offer-one-requires c κs =
       m .rowed .ported _ (inside (c .before .before .before .before .before .before)),
       (l .inv .3, (subst (λ (x : ℕ). l .start ≤ x) (sym e) (rw (l .inv .2) (f .up (l .k) (omega arith))), subst (λ (x : ℕ). x ≤ length (given (a .bytes .now) (a .stream .now))) (sym e) (f .within (l .k) (omega arith)))),
     )
-
-mul-front-2 : tie.Need-mul-front-2 Inv-loop μ-loop
-mul-front-2 c = omega (arith, among-few (c .before .before .before .before .before .before .before .before .before .before .before .before .before .args .rows .now) 0 (c .before .before .before .before .before .before .before .before .before .before .before .before .before .args .count) _ (c .before .before .before .before .before .before .before .before .before .before .before .before .before .pre .0))
-
-element-write-front : tie.Need-element-write-front Inv-loop μ-loop
-element-write-front c = omega (arith, among-few (c .before .before .before .before .before .before .before .before .before .before .before .before .before .args .rows .now) 0 (c .before .before .before .before .before .before .before .before .before .before .before .before .before .args .count) _ (c .before .before .before .before .before .before .before .before .before .before .before .before .before .pre .0), c .before .before .before .before .before .before .before .before .loop .inv .5)
 
 add-k : tie.Need-add-k Inv-loop μ-loop
 add-k c = omega arith
@@ -105,7 +98,6 @@ loop-again c =
           ∙ l .inv .4 j lj)
           (put .own 0 (omega arith) ∙ ap (λ (x : ℕ). sourceOut (slice (l .start) x (given (a .bytes .now) (a .stream .now))) (regIn (a .words .now) (a .marks .now) here) (eqb (l .rest % 2) 1)) e ∙ ap₂ (λ (x : ℕ) (t : Bool). sourceOut (slice x (getD (given (a .end-bytes .now) (a .ends .now)) (l .k) 0) (given (a .bytes .now) (a .stream .now))) (regIn (a .words .now) (a .marks .now) here) t) (l .inv .2)
           (sym (bit-zero (l .rest)) ∙ ap (bit 0) (l .inv .1) ∙ bit-rest (l .k) (a .offer))),
-      length-set (l .front) (l .k) (c .offer-one .result) ∙ l .inv .5,
     )
 
 returns : tie.Need-returns Inv-loop μ-loop
@@ -120,7 +112,7 @@ returns c =
           source-holds (a .rows .now) values (streamAt (a .rows .now) (given (a .bytes .now) (a .stream .now)) (given (a .end-bytes .now) (a .ends .now))) (maskAt (a .rows .now) (a .offer) ready) (regIn (a .words .now) (a .marks .now)) at e (sigAt (l .valid) (l .word))
           (l .inv .4 k (omega arith)
           ∙ ap₂ (λ (x : ℕ) (t : Bool). sourceOut (streamNo (given (a .bytes .now) (a .stream .now)) (given (a .end-bytes .now) (a .ends .now)) x) (regIn (a .words .now) (a .marks .now) at) t) (sym num) (sym (source-bit (a .rows .now) (a .offer) ready at k e num))),
-      (l .inv .3, l .inv .5),
+      l .inv .3,
     )
 
 pub offer-sources-spec : {M : Type 1} → statement M
@@ -133,13 +125,11 @@ offer-sources-spec =
     element-copy-out-b
     cast-b
     number-in-requires
-    mul-front
-    element-copy-out-front
-    element-copy-out-t23
     mul-offer-one
+    element-copy-out-offer-one
+    element-copy-out-t22
+    mul-offer-one-2
     offer-one-requires
-    mul-front-2
-    element-write-front
     add-k
     loop-less
     loop-again

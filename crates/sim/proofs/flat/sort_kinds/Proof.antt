@@ -4,7 +4,7 @@ use mathlib.Core.Path.{_≡_, refl, _∙_}
 use Prim.Native.Nat.{ℕ, _+_, _*_, _-_, _≤_, _<_}
 use native.Mathlib.Omega.{arith}
 use lib.ListN.{getD, length, length-set, replicate}
-use Rattle.passes.specs.Rows.{kindNo, mNo, inKind, Listed, Kinds}
+use Rattle.passes.specs.Rows.{kindNo, mNo, Kinds}
 use Rattle.sim.proofs.Lists.{kind-small, kind-low, sorted-more, sorted-none}
 use Rattle.sim.proofs.flat.sort_kinds.Statement.{statement}
 use Rattle.sim.proofs.flat.sort_kinds.Tie as tie
