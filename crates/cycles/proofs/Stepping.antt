@@ -11,7 +11,7 @@ use Rattle.blocks.specs.declared.Sig.{Sig}
 use Rattle.blocks.specs.declared.Reg.{Reg}
 use Rattle.blocks.proofs.Local.{waits, leans, out-local, ready-local, ready-reads}
 use Rattle.cycles.specs.Wires.{View}
-use Rattle.cycles.specs.Cycle.{Signals, ask, take, signals}
+use Rattle.cycles.specs.Cycle.{Signals, ask, askReady, signals}
 use Rattle.cycles.specs.Solved.{Solves}
 use Rattle.cycles.proofs.Wiring.{Wired}
 
@@ -29,7 +29,7 @@ module _ (v : View) (w : Wired v) (mask : ℕ → Bool) (r : ℕ → Reg) (f : �
   asked = ask v (w .producer) (w .outPort) (w .consumer) (w .inPort) mask r
 
   abbrev taken : (ℕ → Sig) → ℕ → ℕ → Bool
-  taken = take v (w .producer) (w .outPort) (w .consumer) (w .inPort) mask r
+  taken = askReady v (w .producer) (w .outPort) (w .consumer) (w .inPort) mask r
 
   -- ## What a channel shows
 

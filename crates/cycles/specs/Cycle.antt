@@ -28,13 +28,13 @@ module _ (v : View) (from fromPort to toPort : ℕ → ℕ) (mask : ℕ → Bool
   ask (suc f) c = outOf (v .kind (from c)) (mask (from c)) (r (from c)) (λ i. ask f (v .inp (from c) i)) (fromPort c)
 
   -- whether channel c is ready, where the channels show x, by at most f questions in a row
-  abbrev pub take : (ℕ → Sig) → ℕ → ℕ → Bool
-  take x zero c = false
-  take x (suc f) c =
-      readyOf (v .kind (to c)) (mask (to c)) (r (to c)) (λ i. x (v .inp (to c) i)) (λ j. x (v .out (to c) j) .valid) (λ j. take x f (v .out (to c) j)) (toPort c)
+  abbrev pub askReady : (ℕ → Sig) → ℕ → ℕ → Bool
+  askReady x zero c = false
+  askReady x (suc f) c =
+      readyOf (v .kind (to c)) (mask (to c)) (r (to c)) (λ i. x (v .inp (to c) i)) (λ j. x (v .out (to c) j) .valid) (λ j. askReady x f (v .out (to c) j)) (toPort c)
 
   unfoldable pub signals : ℕ → Signals
-  signals f = record { shows = ask f; ready = take (ask f) f }
+  signals f = record { shows = ask f; ready = askReady (ask f) f }
 
 -- the next registers of block b, where the signals are g
 abbrev pub nextAt : View → Signals → (ℕ → Reg) → ℕ → Reg
