@@ -1,6 +1,7 @@
 # make run FORM=examples/add5.form: runs a stored net for 6 cycles and prints each delivery.
 # make lib: the proved library and its header, in build/. make bench: its speed beside plain C.
-# make test: the host tests on the library, then every crate proved from nothing, the must-fail edits and the programs. Its last line is 'N passed, 0 failed'.
+# make test: every crate proved from nothing, the must-fail edits and the programs, then the host tests on the library. Its last line is 'N passed, 0 failed'.
+SHELL = /bin/bash
 LIB = build/libwhemdrosk.a
 NETRUN = target/bin/netrun
 SOURCES := crates.txt $(shell find crates -name '*.rt' -o -name '*.antt')
@@ -9,12 +10,14 @@ SOURCES := crates.txt $(shell find crates -name '*.rt' -o -name '*.antt')
 # Two runs of rt at once would share target/.
 .NOTPARALLEL:
 
-# The library is built anew, so that what is tested is what is proved. rt ci comes last: it removes target/, and its last line is the verdict.
+# rt ci removes target/ and proves all; the library that the host tests try is built from what it proved. Its last line is the verdict, and is said again once they pass.
 test:
 	rm -rf build
+	mkdir -p build
+	set -o pipefail; rt ci 2>&1 | tee build/ci.log
 	$(MAKE) --no-print-directory lib
 	$(MAKE) --no-print-directory host
-	rt ci
+	@tail -n 1 build/ci.log
 
 # The library against a model in C, broken stand-ins that the comparison has to catch, the README's program, netrun on the examples.
 host: $(LIB) $(NETRUN)
