@@ -1,7 +1,7 @@
--- The laws of `allBelow` and `countBelow`.
+-- Laws of Booleans, of `allBelow` and of `countBelow`.
 -- Assumes nothing.
 use mathlib.Core.Path.{_≡_, refl, sym, _∙_, ap, subst}
-use mathlib.Core.Bool.{Bool, true, false, cond, _&&_}
+use mathlib.Core.Bool.{Bool, true, false, cond, _&&_, _||_}
 use mathlib.Core.Logic.{_⊎_, inl, inr}
 use mathlib.Core.Option.{none, some}
 use Prim.Native.Nat.{ℕ, zero, suc, _+_, _≤_, _<_}
@@ -41,6 +41,25 @@ and-false-1 a b p = rw p
 pub and-false-2 : (a b : Bool) → b ≡ false → (a && b) ≡ false
 and-false-2 true b p = p
 and-false-2 false b p = refl
+
+pub or-1 : (a b : Bool) → (a || b) ≡ false → a ≡ false
+or-1 true b p = p
+or-1 false b p = refl
+
+pub or-2 : (a b : Bool) → (a || b) ≡ false → b ≡ false
+or-2 true b p = clash refl p
+or-2 false b p = p
+
+pub or-cases : (a b : Bool) → (a || b) ≡ true → (a ≡ true) ⊎ (b ≡ true)
+or-cases true b p = inl refl
+or-cases false b p = inr p
+
+pub or-other : (a b : Bool) → (a || b) ≡ true → a ≡ false → b ≡ true
+or-other true b p q = clash refl q
+or-other false b p q = p
+
+pub or-left : (a b : Bool) → a ≡ true → (a || b) ≡ true
+or-left a b p = rw p
 
 module _ (f : ℕ → Bool) where
   pub all-none : allBelow f 0 ≡ true

@@ -11,7 +11,7 @@ use lib.ListN.{getD}
 use Rattle.blocks.specs.Ports.{portsOf, nIn, nOut}
 use Rattle.blocks.proofs.Folds.{and-1, and-2}
 use Rattle.nets.specs.Block.{ins, outs, onSide}
-use Rattle.nets.specs.Net.{blockAt, fieldsOk, portAt, connected}
+use Rattle.nets.specs.Net.{blockAt, fieldsOk, portAt, connected, placeOf}
 use Rattle.nets.specs.Loops.{HasPort}
 use Rattle.nets.specs.declared.Net.{Net}
 use Rattle.nets.proofs.Blocks.{ports-ten, input-side, side-input, output-side, side-output}
@@ -19,7 +19,7 @@ use Rattle.nets.proofs.Nets.{m-ok}
 use Rattle.nets.proofs.Wirings.{port-of}
 use Rattle.nets.proofs.Places.{place-is, place-only, has-input, has-output, inp-range as net-inp, out-range as net-out}
 use Rattle.cycles.specs.Streams.{streamOf}
-use Rattle.cycles.specs.Wires.{kindAt, viewOf, placeOf, producer, outPort, consumer, inPort}
+use Rattle.cycles.specs.Wires.{kindAt, viewOf, producer, outPort, consumer, inPort}
 use Rattle.cycles.proofs.Numbers.{ins-agree, outs-agree}
 use Rattle.cycles.proofs.Wiring.{Wired}
 

@@ -84,10 +84,7 @@ module _ (ok : Bool) (net : Net) (s : State) (words ends : List ℕ) where
         (λ q. let e : refusal ≡ 0 = eqb-true refusal 0 q in subst C (sym (step-worked e)) (works (passes false 1 e)))
         (λ q. let e : refusal ≡ 0 → ⊥ = eqb-false refusal 0 q in subst C (sym (step-refused e)) (refuses e))
 
-    -- a refused step changes nothing, and the count of another rises by one
-    pub same-state : (refusal ≡ 0 → ⊥) → answer .state ≡ s
-    same-state n = ap (λ (t : Stepped). t .state) (step-refused n)
-
+    -- the count of a step that is not refused rises by one
     pub count-rises : refusal ≡ 0 → answer .state .count ≡ s .count + 1
     count-rises e = ap (λ (t : Stepped). t .state .count) (step-worked e)
 

@@ -1,12 +1,12 @@
 -- A net over its streams as a cycle and the queue machine read it: its blocks by kind, and the channels at their ports, inputs first.
 -- Assumes nothing.
-use Prim.Native.Nat.{ℕ, zero, suc, _+_, _-_, _*_, _/_, _%_}
-use mathlib.Core.Bool.{Bool, true, false, cond}
+use Prim.Native.Nat.{ℕ, _+_, _-_, _/_, _%_}
+use mathlib.Core.Bool.{true, false}
 use mathlib.Core.List.{List}
 use lib.ListN.{getD}
 use Rattle.blocks.specs.Kinds.{Kind, kindOf}
 use Rattle.nets.specs.Block.{ins}
-use Rattle.nets.specs.Net.{blockAt, namesAt}
+use Rattle.nets.specs.Net.{blockAt, placeOf}
 use Rattle.nets.specs.declared.Net.{Net}
 use Rattle.cycles.specs.Streams.{streamOf}
 
@@ -30,15 +30,6 @@ viewOf net words ends =
       inp = λ b i. getD (blockAt net b .ports) i 0;
       out = λ b j. getD (blockAt net b .ports) (ins (blockAt net b) + j) 0;
     }
-
--- the last number below n at which the test passes
-abbrev pub seek : (ℕ → Bool) → ℕ → ℕ
-seek f zero = 0
-seek f (suc n) = cond (f n) n (seek f n)
-
--- the place of the port of this side (output: true) that names channel c: port q % 10 of block q / 10
-unfoldable pub placeOf : Net → Bool → ℕ → ℕ
-placeOf net side c = seek (namesAt net side c) (net .size * 10)
 
 -- the block and the output port that channel c leaves, the block and the input port that it enters
 abbrev pub producer : Net → ℕ → ℕ

@@ -10,16 +10,16 @@ use lib.Dec.{ltb}
 use lib.ListN.{getD}
 use Rattle.loops.proofs.Cycle.{no-loop}
 use Rattle.blocks.specs.Folds.{allBelow}
-use Rattle.blocks.proofs.Folds.{and-1, and-2, all-at}
+use Rattle.blocks.proofs.Folds.{and-1, and-2, all-at, or-other}
 use Rattle.nets.specs.Block.{ins}
-use Rattle.nets.specs.Net.{blockAt, fieldsOk, connected, fewEnds}
+use Rattle.nets.specs.Net.{blockAt, fieldsOk, connected, fewEnds, placeOf}
 use Rattle.nets.specs.Loops.{FreeLoop, isBuffer}
 use Rattle.nets.specs.Verdict.{Joined, VerdictIs}
 use Rattle.nets.specs.declared.Net.{Net}
 use Rattle.nets.specs.declared.Verdict.the-variants.{Accepted}
 use Rattle.nets.proofs.Blocks.{side-input}
 use Rattle.nets.proofs.FreeLoops.{LeadsFree, by-ends}
-use Rattle.nets.proofs.Places.{placeOf, inp-range, the-end}
+use Rattle.nets.proofs.Places.{inp-range, the-end}
 
 -- the number grows from the producer of input i of block b to b
 abbrev pub growsAt : Net → List ℕ → ℕ → ℕ → Bool
@@ -30,9 +30,6 @@ risesAt net control ranks b = isBuffer control (blockAt net b .kind) || allBelow
 
 unfoldable pub rises : Net → Bool → List ℕ → Bool
 rises net control ranks = allBelow (risesAt net control ranks) (net .size)
-
-or-free : (a b : Bool) → (a || b) ≡ true → a ≡ false → b ≡ true
-or-free a b e f = rw f at e
 
 module _ (net : Net) (j : Joined net) where
   no-free : (control : Bool) (ranks : List ℕ) → rises net control ranks ≡ true → FreeLoop net control → ⊥
@@ -49,7 +46,7 @@ module _ (net : Net) (j : Joined net) where
           let a-is : a ≡ placeOf net true c / 10 = the-end net (j .fields) (j .joins) true c hc .only a (x .leads .leaves) in
           let grow : growsAt net ranks b i ≡ true =
           all-at (growsAt net ranks b) (ins (blockAt net b))
-          (or-free (isBuffer control (blockAt net b .kind)) (allBelow (growsAt net ranks b) (ins (blockAt net b)))
+          (or-other (isBuffer control (blockAt net b .kind)) (allBelow (growsAt net ranks b) (ins (blockAt net b)))
           (all-at (risesAt net control ranks) (net .size) t b hb) (x .to-free)) i hi in
           let less : getD ranks (placeOf net true (getD (blockAt net b .ports) i 0) / 10) 0 < getD ranks b 0 = ltb-true _ (getD ranks b 0) grow in
           subst (λ (d : ℕ). getD ranks d 0 < getD ranks b 0) (ap (λ (d : ℕ). placeOf net true d / 10) e ∙ sym a-is) less

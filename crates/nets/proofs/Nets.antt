@@ -29,14 +29,8 @@ module _ (net : Net) where
 
   -- what a net whose counts pass is known to have
   module _ (sizes : sizesOk (net .size) (net .channels) ≡ true) where
-    pub sizes-low : 2 ≤ net .size
-    sizes-low = leb-true 2 (net .size) (and-1 (leb 2 (net .size)) _ sizes)
-
     pub sizes-high : net .size ≤ 64
     sizes-high = leb-true (net .size) 64 (and-1 (leb (net .size) 64) _ (and-2 (leb 2 (net .size)) _ sizes))
-
-    pub sizes-some : 1 ≤ net .channels
-    sizes-some = leb-true 1 (net .channels) (and-1 (leb 1 (net .channels)) _ (and-2 (leb (net .size) 64) _ (and-2 (leb 2 (net .size)) _ sizes)))
 
     pub sizes-few : net .channels ≤ 128
     sizes-few =
@@ -48,14 +42,8 @@ module _ (net : Net) where
     unfolding fieldsOk
     sizes = and-1 (sizesOk (net .size) (net .channels)) (allBelow (entryAt net) 64) ok
 
-    pub size-low : 2 ≤ net .size
-    size-low = sizes-low sizes
-
     pub size-high : net .size ≤ 64
     size-high = sizes-high sizes
-
-    pub channels-low : 1 ≤ net .channels
-    channels-low = sizes-some sizes
 
     pub channels-high : net .channels ≤ 128
     channels-high = sizes-few sizes

@@ -14,7 +14,7 @@ use lib.Seq.{getD-set-same, getD-set-other}
 use borrow.Author.Tests.{eq-eqb, ne-eqb, eqb-true, eqb-false, le-leb, not-true, not-false}
 use Rattle.loops.proofs.Cycle.{no-loop, has-loop}
 use Rattle.blocks.specs.Folds.{allBelow, countBelow}
-use Rattle.blocks.proofs.Folds.{clash, and-1, and-2, all-none, all-more, all-at, all-fails, all-less, fails-at, count-step, count-some, count-all, count-zero, count-drop}
+use Rattle.blocks.proofs.Folds.{clash, and-1, and-2, all-none, all-more, all-at, all-fails, all-less, fails-at, count-step, count-some, count-all, count-zero, count-drop, or-1, or-2, or-cases}
 use Rattle.nets.specs.Block.{ins}
 use Rattle.nets.specs.Net.{blockAt, fieldsOk}
 use Rattle.nets.specs.Loops.{HasPort, Leads, FreeLoop, isBuffer}
@@ -28,14 +28,6 @@ use Rattle.nets.proofs.Rows.{kind-in, ins-in, port-in}
 use Rattle.nets.proofs.FreeLoops.{LeadsFree, by-ends, by-blocks}
 
 -- ## Tests
-
-or-cases : (a b : Bool) → (a || b) ≡ true → (a ≡ true) ⊎ (b ≡ true)
-or-cases true b e = inl refl
-or-cases false b e = inr e
-
-or-no : (a b : Bool) → (a || b) ≡ false → (a ≡ false) × (b ≡ false)
-or-no true b e = clash refl e
-or-no false b e = (refl, e)
 
 -- where neither end is a buffer the channel is not cut
 pub uncut : (control : Bool) (a b : ℕ) → isBuffer control a ≡ false → isBuffer control b ≡ false → cuts control a b ≡ false
@@ -386,7 +378,7 @@ module _ (net : Net) (control : Bool) (rows producer : List ℕ) (all : Rows net
         let f : (j : ℕ) × (j < rowIns rows x) × (fedAt control rows producer (s .places) x j ≡ false) =
         fails-at (fedAt control rows producer (s .places) x) (rowIns rows x) (rw (l .1) at n) in
         let e : (cutAt control rows producer x (f .0) ≡ false) × (not (unplaced (s .places) (feeder rows producer x (f .0))) ≡ false) =
-        or-no (cutAt control rows producer x (f .0)) (not (unplaced (s .places) (feeder rows producer x (f .0)))) (f .2) in
+        (or-1 (cutAt control rows producer x (f .0)) (not (unplaced (s .places) (feeder rows producer x (f .0)))) (f .2), or-2 (cutAt control rows producer x (f .0)) (not (unplaced (s .places) (feeder rows producer x (f .0)))) (f .2)) in
         (f .0, f .1, e .0, not-false (unplaced (s .places) (feeder rows producer x (f .0))) (e .1))
 
     abbrev Free : ℕ → Type 0

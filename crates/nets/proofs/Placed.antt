@@ -13,7 +13,7 @@ use lib.ListN.{length, getD, set, replicate}
 use Rattle.blocks.specs.Folds.{allBelow}
 use Rattle.blocks.proofs.Folds.{which, fails-at}
 use Rattle.nets.specs.Block.{ins, outs}
-use Rattle.nets.specs.Net.{blockAt, fieldsOk, connected}
+use Rattle.nets.specs.Net.{blockAt, fieldsOk, connected, placeOf}
 use Rattle.nets.specs.Loops.{FreeLoop}
 use Rattle.nets.specs.Promises.{Table, InOrder}
 use Rattle.nets.specs.Rows.{Rows}
@@ -21,7 +21,7 @@ use Rattle.nets.specs.Order.{nextAt, passedAt, Progress}
 use Rattle.nets.specs.declared.Block.{Block}
 use Rattle.nets.specs.declared.Net.{Net}
 use Rattle.nets.proofs.Nets.{size-high}
-use Rattle.nets.proofs.Places.{placeOf, the-end}
+use Rattle.nets.proofs.Places.{the-end}
 use Rattle.nets.proofs.Orders.{feeds-of, progress-start, progress-step, in-order, free-loop}
 
 -- f 0, .., f (n - 1)

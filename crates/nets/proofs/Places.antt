@@ -1,7 +1,7 @@
 -- The ends of the channels of a net whose fields and connections pass, worked out from the net alone: each channel has one place on either side, a port of
 -- one block, and any port that names the channel is that one.
 -- Assumes nothing.
-use mathlib.Core.Path.{_≡_, refl, _∙_, ap}
+use mathlib.Core.Path.{_≡_, refl, ap}
 use mathlib.Core.Bool.{Bool, true, false, cond}
 use mathlib.Core.Logic.{_⊎_, inl, inr}
 use Prim.Native.Nat.{ℕ, zero, suc, _+_, _-_, _*_, _/_, _%_, _<_}
@@ -12,18 +12,13 @@ use borrow.Author.Tests.{eqb-true, eq-eqb}
 use Rattle.blocks.specs.Folds.{one, countBelow}
 use Rattle.blocks.proofs.Folds.{which, and-1, and-2, and-both, all-at, count-one}
 use Rattle.nets.specs.Block.{ins, outs, onSide}
-use Rattle.nets.specs.Net.{blockAt, fieldsOk, namesAt, portCount, joined, connected}
+use Rattle.nets.specs.Net.{blockAt, fieldsOk, namesAt, seek, placeOf, portCount, joined, connected}
 use Rattle.nets.specs.Loops.{HasPort}
 use Rattle.nets.specs.Promises.{TheBlock}
 use Rattle.nets.specs.declared.Net.{Net}
-use Rattle.nets.proofs.Blocks.{ports-ten, ins-small, input-side, side-input, output-side, side-output, used-small, port-small}
+use Rattle.nets.proofs.Blocks.{ports-ten, ins-small, input-side, output-side, used-small, port-small}
 use Rattle.nets.proofs.Nets.{block-in}
 use Rattle.nets.proofs.Wirings.{port-of, one-block}
-
--- the last number below n where the test holds
-abbrev pub seek : (ℕ → Bool) → ℕ → ℕ
-seek f zero = 0
-seek f (suc n) = cond (f n) n (seek f n)
 
 pub seek-finds : (f : ℕ → Bool) (n : ℕ) → 0 < countBelow f n → (seek f n < n) × (f (seek f n) ≡ true)
 unfolding countBelow
@@ -36,10 +31,6 @@ seek-finds f (suc n) h = go (which (f n)) (seek-finds f n)
     go (inr q) rec =
         let r : (seek f n < n) × (f (seek f n) ≡ true) = rec (omega (arith, ap one q)) in
         rw q (omega (arith, r .0), r .1)
-
--- the place of the port of this side that names channel c: port q % 10 of block q / 10
-abbrev pub placeOf : Net → Bool → ℕ → ℕ
-placeOf net side c = seek (namesAt net side c) (net .size * 10)
 
 module _ (net : Net) (ok : fieldsOk net ≡ true) where
   -- the ports of a block of the net name channels of the net
@@ -71,16 +62,6 @@ module _ (net : Net) where
         names = refl;
       }
 
-  -- and back
-  pub as-input : (c b : ℕ) → HasPort net false c b → (i : ℕ) × (i < ins (blockAt net b)) × (getD (blockAt net b .ports) i 0 ≡ c)
-  as-input c b p = (p .port, side-input (blockAt net b) (p .port) (p .on-side), p .names)
-
-  pub as-output : (c b : ℕ) → HasPort net true c b → (j : ℕ) × (j < outs (blockAt net b)) × (getD (blockAt net b .ports) (ins (blockAt net b) + j) 0 ≡ c)
-  as-output c b p =
-      let s = side-output (blockAt net b) (p .port) (p .on-side) in
-      let e : ins (blockAt net b) + (p .port - ins (blockAt net b)) ≡ p .port = omega (arith, s .0) in
-      (p .port - ins (blockAt net b), omega (arith, s .0, s .1), ap (λ (x : ℕ). getD (blockAt net b .ports) x 0) e ∙ p .names)
-
 module _ (net : Net) (ok : fieldsOk net ≡ true) (joins : connected net ≡ true) where
   pub one-port : (side : Bool) (c : ℕ) → c < net .channels → portCount net side c ≡ 1
   unfolding connected
@@ -89,7 +70,7 @@ module _ (net : Net) (ok : fieldsOk net ≡ true) (joins : connected net ≡ tru
 
   -- the place of a channel's end is one
   pub place-is : (side : Bool) (c : ℕ) → c < net .channels → (placeOf net side c < net .size * 10) × (namesAt net side c (placeOf net side c) ≡ true)
-  unfolding portCount
+  unfolding portCount placeOf
   place-is side c h = seek-finds (namesAt net side c) (net .size * 10) (omega (arith, one-port side c h))
 
   -- and it is that of any port that names the channel

@@ -13,7 +13,7 @@ use Rattle.loops.proofs.Cycle.{no-loop}
 use Rattle.blocks.specs.Ports.{portsOf}
 use Rattle.nets.specs.Block.{ins, outs, onSide, portsOk, blockOk}
 use Rattle.blocks.specs.Folds.{allBelow, countBelow}
-use Rattle.nets.specs.Net.{blockAt, blockZero, fieldsOk, kindCount, portCount, connected}
+use Rattle.nets.specs.Net.{blockAt, blockZero, fieldsOk, kindCount, portCount, connected, placeOf}
 use Rattle.nets.specs.Loops.{FreeLoop, isBuffer}
 use Rattle.nets.specs.Verdict.{Joined, VerdictIs}
 use Rattle.nets.specs.declared.Block.{Block}
@@ -112,5 +112,5 @@ line =
     }
 
 pub line-accepted : VerdictIs line Accepted
-unfolding acceptable rises fieldsOk connected kindCount portCount allBelow countBelow blockOk blockZero portsOk portsOf ins outs onSide
+unfolding acceptable rises placeOf fieldsOk connected kindCount portCount allBelow countBelow blockOk blockZero portsOk portsOf ins outs onSide
 line-accepted = accepted-test line (0 ∷ 1 ∷ 2 ∷ 3 ∷ []) (0 ∷ 1 ∷ 2 ∷ 3 ∷ []) refl

@@ -2,7 +2,7 @@
 -- Assumes nothing.
 use mathlib.Core.Bool.{Bool, true, false, cond, not, _&&_}
 use mathlib.Core.List.{List}
-use Prim.Native.Nat.{ℕ, _*_, _/_, _%_}
+use Prim.Native.Nat.{ℕ, suc, zero, _*_, _/_, _%_}
 use lib.Dec.{leb, ltb, eqb}
 use lib.ListN.{getD}
 use Rattle.blocks.specs.Folds.{allBelow, countBelow}
@@ -69,3 +69,12 @@ joined net c = eqb (portCount net true c) 1 && eqb (portCount net false c) 1
 -- every channel has (refusal 8)
 unfoldable pub connected : Net → Bool
 connected net = allBelow (joined net) (net .channels)
+
+-- the last number below n at which the test passes
+abbrev pub seek : (ℕ → Bool) → ℕ → ℕ
+seek f zero = 0
+seek f (suc n) = cond (f n) n (seek f n)
+
+-- the place of the port of this side that names channel c
+unfoldable pub placeOf : Net → Bool → ℕ → ℕ
+placeOf net side c = seek (namesAt net side c) (net .size * 10)

@@ -15,7 +15,7 @@ use Rattle.blocks.specs.Equations.{outOf, readyOf}
 use Rattle.blocks.specs.Shape.{forkReg, mergeReg, inShape}
 use Rattle.blocks.specs.declared.Sig.{Sig}
 use Rattle.blocks.specs.declared.Reg.{Reg}
-use Rattle.blocks.proofs.Folds.{clash, and-1, and-2}
+use Rattle.blocks.proofs.Folds.{clash, and-1, and-2, or-1}
 use Rattle.cycles.proofs.Numbers.{by-kind, no-kind}
 use Rattle.ports.specs.Places.{portAt, Apart, Put}
 use Rattle.ports.specs.Worked.{nextHere}
@@ -57,15 +57,11 @@ fork-fits k m r e s =
 
 -- ## Blocks that do not rest
 
-or-first : (a b : Bool) → (a || b) ≡ false → a ≡ false
-or-first true b e = e
-or-first false b e = refl
-
 pub turns-back : (k : ℕ) → restsBack k ≡ false → leb k 1 ≡ false
-turns-back k e = or-first (leb k 1) (eqb k 10) e
+turns-back k e = or-1 (leb k 1) (eqb k 10) e
 
 pub turns-on : (k : ℕ) → restsAhead k ≡ false → eqb k 0 ≡ false
-turns-on k e = ne-eqb k 0 (λ z. clash (subst (λ (x : ℕ). leb x 1 ≡ true) (sym z) refl) (or-first (leb k 1) (eqb k 8 || eqb k 9) e))
+turns-on k e = ne-eqb k 0 (λ z. clash (subst (λ (x : ℕ). leb x 1 ≡ true) (sym z) refl) (or-1 (leb k 1) (eqb k 8 || eqb k 9) e))
 
 -- ## The arms
 

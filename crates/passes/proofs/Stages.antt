@@ -13,7 +13,7 @@ use Rattle.blocks.specs.Kinds.{kindOf}
 use Rattle.blocks.specs.Shape.{inShape}
 use Rattle.blocks.specs.declared.Sig.{Sig}
 use Rattle.blocks.specs.declared.Reg.{Reg}
-use Rattle.blocks.proofs.Folds.{which, clash}
+use Rattle.blocks.proofs.Folds.{which, clash, or-1, or-2, or-other}
 use Rattle.passes.specs.Rows.{kindNo, mNo, baseNo, kindIn, inNo, outNo, regIn, isKindNo, Rowed, Shaped}
 use Rattle.passes.specs.Passed.{nextNo, Settled, Stepping, AllSettled}
 use Rattle.passes.proofs.Sites.{next-here}
@@ -26,18 +26,6 @@ none k = false
 -- one kind more is done
 abbrev pub with-kind : ℕ → (ℕ → Bool) → ℕ → Bool
 with-kind kind done k = eqb k kind || done k
-
-or-1 : (a b : Bool) → (a || b) ≡ false → a ≡ false
-or-1 true b e = e
-or-1 false b e = refl
-
-or-2 : (a b : Bool) → (a || b) ≡ false → b ≡ false
-or-2 true b e = clash refl e
-or-2 false b e = e
-
-or-left : (a b : Bool) → a ≡ false → (a || b) ≡ true → b ≡ true
-or-left true b f e = clash refl f
-or-left false b f e = e
 
 -- the kinds with registers
 abbrev pub six : ℕ → Bool
@@ -67,15 +55,12 @@ module _ (rows : List ℕ) (n : ℕ) (X : ℕ → Sig) (Y : ℕ → Bool) (r₀ 
           next values xs mask b lb e
           ∙ ap (λ (q : Reg). nextOf (kindIn rows values xs b) q (λ i. X (inNo rows b i)) (λ i. Y (inNo rows b i)) (λ j. X (outNo rows b j) .valid) (λ j. Y (outNo rows b j)))
           (h .stays b (λ l. subst (λ (k : ℕ). done k ≡ false) (sym (eqb-true (kindNo rows b) kind e)) z))
-      by values xs mask b lb t (inr e) = same b (λ l. e) ∙ h .went values xs mask b lb (or-left (isKindNo rows kind b) (done (kindNo rows b)) e t)
+      by values xs mask b lb t (inr e) = same b (λ l. e) ∙ h .went values xs mask b lb (or-other (isKindNo rows kind b) (done (kindNo rows b)) t e)
 
   -- after the six kinds every block has its next registers
   pub went-all : Rowed rows n → (r : ℕ → Reg) → Went six r → (values : List ℕ) (xs : ℕ → List ℕ) (mask : ℕ → Bool) (b : ℕ) → b < n → r b ≡ nextNo rows values xs mask r₀ X Y b
   went-all w r h values xs mask b lb = by (which (six (kindNo rows b)))
     where
-      k : ℕ
-      k = kindNo rows b
-
       by : (six (kindNo rows b) ≡ true) ⊎ (six (kindNo rows b) ≡ false) → r b ≡ nextNo rows values xs mask r₀ X Y b
       by (inl t) = h .went values xs mask b lb t
       by (inr f) =

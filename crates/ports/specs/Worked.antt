@@ -34,10 +34,6 @@ outsReady K rows base ready j = ready (outAt K rows base j)
 abbrev pub Forward : Kind → Bool → Reg → List ℕ → ℕ → (ℕ → Sig) → (ℕ → Sig) → Type 0
 Forward K mask r rows base before after = Put (outAt K rows base) (outOf K mask r (insShow rows base before)) (nOut K) before after
 
--- the outputs show what the block offers
-abbrev pub Shows : Kind → Bool → Reg → List ℕ → ℕ → (ℕ → Sig) → Type 0
-Shows K mask r rows base shows = (j : ℕ) → j < nOut K → shows (outAt K rows base j) ≡ outOf K mask r (insShow rows base shows) j
-
 -- readiness has been put on the inputs: as the block says of its outputs as they were
 abbrev pub Backward : Kind → Bool → Reg → List ℕ → ℕ → (ℕ → Sig) → (ℕ → Bool) → (ℕ → Bool) → Type 0
 Backward K mask r rows base shows before after =

@@ -12,13 +12,12 @@ use Rattle.blocks.specs.Ports.{portsOf}
 use Rattle.blocks.specs.Words.{operate}
 use Rattle.blocks.proofs.Folds.{all-at}
 use Rattle.nets.specs.Block.{ins, outs, onSide, portsOk, blockOk}
-use Rattle.nets.specs.Net.{blockAt, isKind, blockZero, fieldsOk, kindCount, portCount, connected}
+use Rattle.nets.specs.Net.{blockAt, isKind, blockZero, fieldsOk, kindCount, portCount, connected, placeOf}
 use Rattle.nets.specs.declared.Block.{Block}
 use Rattle.nets.specs.declared.Net.{Net}
 use Rattle.nets.proofs.Accepting.{rises, acceptable, accepted-test}
 use Rattle.nets.proofs.Trials.{line, line-accepted}
 use Rattle.cycles.specs.Streams.{endsFit}
-use Rattle.cycles.specs.Wires.{placeOf}
 use Rattle.cycles.specs.Cycle.{signals}
 use Rattle.cycles.specs.State.{tab, shapeOk, regsOf}
 use Rattle.cycles.specs.Step.{refusalBy, stepBy, freshBy}
@@ -75,7 +74,7 @@ counter =
 
 -- forward from the data buffer; ready from the control buffer on
 pub counter-accepted : IsAccepted counter
-unfolding acceptable rises fieldsOk connected kindCount portCount allBelow countBelow blockOk blockZero portsOk portsOf ins outs onSide
+unfolding acceptable rises placeOf fieldsOk connected kindCount portCount allBelow countBelow blockOk blockZero portsOk portsOf ins outs onSide
 counter-accepted = accepted-test counter (1 ∷ 2 ∷ 2 ∷ 3 ∷ 0 ∷ []) (2 ∷ 3 ∷ 3 ∷ 0 ∷ 1 ∷ []) refl
 
 pub counter-free : MergeFree counter

@@ -1,6 +1,6 @@
 -- From an accepted net to its rows: the promises of the net check give what the passes need, and rows that are worked out solve the net's equations.
 -- Assumes nothing.
-use mathlib.Core.Path.{_≡_, refl, sym, ap, ap₂, subst, _∙_}
+use mathlib.Core.Path.{_≡_, sym, ap, ap₂, subst, _∙_}
 use mathlib.Core.Bool.{Bool, true, false, cond, _||_}
 use mathlib.Core.List.{List, []}
 use Prim.Native.Nat.{ℕ, _+_, _≤_, _<_}
@@ -15,7 +15,7 @@ use Rattle.blocks.specs.Ports.{mOk, inputsOf, outputsOf, nIn, nOut}
 use Rattle.blocks.specs.Equations.{outOf, readyOf, nextOf}
 use Rattle.blocks.specs.declared.Sig.{Sig}
 use Rattle.blocks.specs.declared.Reg.{Reg}
-use Rattle.blocks.proofs.Folds.{and-2, all-at, count-same, clash}
+use Rattle.blocks.proofs.Folds.{and-2, all-at, count-same, or-2}
 use Rattle.blocks.proofs.Local.{out-local, ready-local, ready-reads, next-local}
 use Rattle.nets.specs.Block.{ins, outs, portOk, portsOk, valueOk, blockOk}
 use Rattle.nets.specs.Net.{blockAt, fieldsOk, connected, isKind, numberAmong}
@@ -36,10 +36,6 @@ use Rattle.passes.specs.Passed.{nextNo}
 use Rattle.sim.specs.Flat.{Flat}
 use Rattle.sim.specs.Ends.{numberNo, streamAt, maskAt}
 use Rattle.sim.specs.Wires.{Worked}
-
-or-second : (a b : Bool) → (a || b) ≡ false → b ≡ false
-or-second true b e = clash refl e
-or-second false b e = e
 
 -- every port entry is a channel, or 0
 port-any : (b : Block) (channels : ℕ) → channels ≤ 128 → blockOk b channels ≡ true → (i : ℕ) → i < 10 → getD (b .ports) i 0 < 128
@@ -136,7 +132,7 @@ module _ (net : Net) (rows values : List ℕ) (flat : Flat net (net .size) rows 
           grows =
               λ a b i j la lb ta tb li lj e.
               o .grows (view .out a i) a b (leads a b i j la lb li lj e)
-              (subst (λ (k : ℕ). (eqb k 8 || eqb k 9) ≡ false) (flat .row b lb .kind-is) (or-second (leb (kindNo rows b) 1) (eqb (kindNo rows b) 8 || eqb (kindNo rows b) 9) tb));
+              (subst (λ (k : ℕ). (eqb k 8 || eqb k 9) ≡ false) (flat .row b lb .kind-is) (or-2 (leb (kindNo rows b) 1) (eqb (kindNo rows b) 8 || eqb (kindNo rows b) 9) tb));
         }
 
     pub back-of : (order : List ℕ) → InOrder net true order → Whole rows (net .size) restsBack order
@@ -147,7 +143,7 @@ module _ (net : Net) (rows values : List ℕ) (flat : Flat net (net .size) rows 
           grows =
               λ a b i j la lb ta tb li lj e.
               o .grows (view .out a i) a b (leads a b i j la lb li lj e)
-              (subst (λ (k : ℕ). eqb k 10 ≡ false) (flat .row a la .kind-is) (or-second (leb (kindNo rows a) 1) (eqb (kindNo rows a) 10) ta));
+              (subst (λ (k : ℕ). eqb k 10 ≡ false) (flat .row a la .kind-is) (or-2 (leb (kindNo rows a) 1) (eqb (kindNo rows a) 10) ta));
         }
 
     -- ## Streams and masks

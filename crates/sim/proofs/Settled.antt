@@ -17,7 +17,7 @@ use Rattle.blocks.specs.Signals.{full}
 use Rattle.blocks.specs.Equations.{offers, won, outOf}
 use Rattle.blocks.specs.declared.Sig.{Sig}
 use Rattle.blocks.specs.declared.Reg.{Reg}
-use Rattle.blocks.proofs.Folds.{and-1, clash}
+use Rattle.blocks.proofs.Folds.{and-1, clash, or-cases, or-left}
 use Rattle.cycles.specs.Streams.{endBefore}
 use Rattle.ports.specs.Places.{sigAt, portAt}
 use Rattle.passes.specs.Rows.{kindNo, mNo, baseNo, outsNo, isKindNo, restsAhead, restsBack, Listed}
@@ -27,13 +27,6 @@ use Rattle.sim.specs.Ends.{streamAt, maskAt, numberNo, Fitting}
 use Rattle.ports.proofs.Copies.{gone-quiet}
 use Rattle.passes.proofs.Listings.{listed-at}
 use Rattle.sim.proofs.EndLaws.{source-free}
-
-or-cases : (a b : Bool) → (a || b) ≡ true → (a ≡ true) ⊎ (b ≡ true)
-or-cases true b e = inl refl
-or-cases false b e = inr e
-
-or-left : (a b : Bool) → a ≡ true → (a || b) ≡ true
-or-left a b e = ap (λ (x : Bool). x || b) e
 
 -- ## The kinds that rest, one after the other: sources and sinks, then empty and full data buffers; sources and sinks, then control buffers
 

@@ -73,11 +73,6 @@ module _ (bytes list : List ℕ) where
       by true e = subst (λ (x : ℕ). x < 2 ^ 32) (sym (given-front i (ltb-true i (length bytes / 4) e))) (numbers-lt bytes f i)
       by false e = subst (λ (x : ℕ). x < 2 ^ 32) (sym (given-rest i (ltb-false i (length bytes / 4) e))) (g (i - length bytes / 4))
 
--- no bytes
-pub given-list : (list : List ℕ) → given [] list ≡ list
-unfolding numbersOf
-given-list list = refl
-
 -- no list
 pub given-bytes : (bytes : List ℕ) → given bytes [] ≡ numbersOf bytes
 given-bytes bytes = append-nil (numbersOf bytes)

@@ -1,6 +1,6 @@
 -- Laws of a cycle's records: how many there are, what they depend on, and what one channel more does.
 -- Assumes nothing.
-use Prim.Native.Nat.{ℕ, zero, suc, _+_, _^_, _<_, _≤_}
+use Prim.Native.Nat.{ℕ, zero, suc, _+_, _<_, _≤_}
 use native.Mathlib.Omega.{arith}
 use mathlib.Core.Path.{_≡_, refl, sym, _∙_, ap, ap₂}
 use mathlib.Core.Bool.{Bool, true, false, cond}
@@ -10,10 +10,6 @@ use lib.Seq.{take-suc-set, take-set-le}
 use mir.Val.{boolByte}
 use native.Mathlib.Numerals.{add-one}
 use Rattle.trace.specs.Records.{recordOf, recordsBelow, Listed}
-
--- a record of a count that a state can have is a 64-bit number
-pub record-lt : (count c w : ℕ) → count ≤ 1048576 → c < 128 → w < 2 ^ 32 → recordOf count c w < 2 ^ 64
-record-lt count c w p q r = omega arith
 
 -- a test as a number, as the code adds it
 one-record : (t : Bool) (r : ℕ) → length (cond t (r ∷ []) []) ≡ boolByte t
@@ -29,10 +25,6 @@ one-same true u r s e f = rw (← e) (ap (λ (x : ℕ). x ∷ []) (f refl))
 one-same false u r s e f = rw (← e)
 
 module _ (count : ℕ) (moves : ℕ → Bool) (word : ℕ → ℕ) where
-  pub records-none : recordsBelow count moves word 0 ≡ []
-  unfolding recordsBelow
-  records-none = refl
-
   pub records-more : (c : ℕ) → recordsBelow count moves word (c + 1) ≡ recordsBelow count moves word c ++ cond (moves c) (recordOf count c (word c) ∷ []) []
   unfolding recordsBelow
   records-more c = rw add-one
