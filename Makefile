@@ -1,12 +1,19 @@
 # make run FORM=examples/add5.form: runs a stored net for 6 cycles and prints each delivery.
 # make lib: the proved library and its header, in build/. make bench: its speed beside plain C.
+# make soak NETS=1000000 SEED=2: the library against the model over so many random nets, with a line of progress every ten seconds.
 # make test: every crate proved from nothing, the must-fail edits and the programs, then the host tests on the library. Its last line is 'N passed, 0 failed'.
 SHELL = /bin/bash
 LIB = build/libwhemdrosk.a
 NETRUN = target/bin/netrun
 SOURCES := crates.txt $(shell find crates -name '*.rt' -o -name '*.antt')
 
-.PHONY: test host lib run bench clean
+NETS = 1000000
+SEED = 2
+# How many crates or edits rt tries at once: two for each core, as it waits for the last of a batch before it begins the next.
+CORES := $(shell nproc 2> /dev/null || echo 2)
+export RT_JOBS ?= $(shell echo $$((2 * $(CORES))))
+
+.PHONY: test host lib run soak bench clean
 # Two runs of rt at once would share target/.
 .NOTPARALLEL:
 
@@ -15,20 +22,23 @@ test:
 	rm -rf build
 	mkdir -p build
 	set -o pipefail; rt ci 2>&1 | tee build/ci.log
-	$(MAKE) --no-print-directory lib
+	tools/timed "the library built" $(MAKE) --no-print-directory lib
 	$(MAKE) --no-print-directory host
+	@tools/dearest
 	@tail -n 1 build/ci.log
 
-# The library against a model in C, broken stand-ins that the comparison has to catch, the README's program, netrun on the examples.
+# The pages; the library against a model in C, broken stand-ins that the comparison has to catch, the README's program, netrun on the examples.
 host: $(LIB) $(NETRUN)
-	$(MAKE) --no-print-directory -C tests check LIB=../$(LIB)
-	$(MAKE) --no-print-directory -C tests mutants
-	$(MAKE) --no-print-directory -C tests readme LIB=../$(LIB) HEADER=../build/whemdrosk.h
-	$(MAKE) --no-print-directory -C tests netrun NETRUN=../$(NETRUN)
+	tools/timed "the pages" $(MAKE) --no-print-directory -C tests pages
+	tools/timed "library and model" $(MAKE) --no-print-directory -C tests check LIB=../$(LIB)
+	tools/timed "broken stand-ins" $(MAKE) --no-print-directory -j$(CORES) -C tests mutants watchdog
+	tools/timed "the README's program" $(MAKE) --no-print-directory -C tests readme LIB=../$(LIB) HEADER=../build/whemdrosk.h
+	tools/timed "netrun on the examples" $(MAKE) --no-print-directory -C tests netrun NETRUN=../$(NETRUN)
 
 lib: $(LIB)
 
 $(LIB): $(SOURCES) include/whemdrosk.h
+	@tools/proved whemdrosk
 	rt staticlib whemdrosk
 	mkdir -p build
 	cp include/whemdrosk.h target/staticlib/libwhemdrosk.a build/
@@ -41,10 +51,11 @@ run:
 	@$(NETRUN) "$(FORM)"
 
 $(NETRUN): $(SOURCES)
-	@echo "building netrun: its crates are proved first, which takes minutes where none is proved yet" >&2
-	@mkdir -p build
-	@rt check netrun > build/netrun.log 2>&1 || { cat build/netrun.log >&2; exit 1; }
+	@tools/proved netrun
 	@touch $@
+
+soak: $(LIB)
+	$(MAKE) --no-print-directory -C tests soak LIB=../$(LIB) NETS=$(NETS) SEED=$(SEED)
 
 bench: $(LIB)
 	$(MAKE) --no-print-directory -C bench run LIB=../$(LIB)

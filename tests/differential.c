@@ -1,5 +1,6 @@
 // Compares the library with the model: cases by hand, random nets, damaged forms, bad streams and masks, traces too short, limits.
-// usage: differential [EXAMPLES [SEED [NETS [random]]]] (with the last word the cases by hand and the examples are left out)
+// usage: differential [EXAMPLES [SEED [NETS [random|soak]]]] (random: without the cases by hand and the examples; soak: all, with a line of progress every ten
+// seconds)
 #include "generate.h"
 #include "golden.h"
 #include "harness.h"
@@ -496,17 +497,19 @@ static void try_gcd(const char *folder)
 // Every example over 1, 2, 3 for each source and over random masks.
 static void try_examples(const char *folder)
 {
-    enum { EXAMPLES = 6 };
+    enum { EXAMPLES = 9, SOURCES = 32 };
     static const struct { const char *name; unsigned sources; } examples[EXAMPLES] = {
-        {"add5.form", 1}, {"fork.form", 1}, {"gcd.form", 2}, {"shared.form", 2}, {"pipeline.form", 1}, {"stalled.form", 2}};
+        {"add5.form", 1}, {"fork.form", 1}, {"gcd.form", 2}, {"shared.form", 2}, {"pipeline.form", 1}, {"stalled.form", 2},
+        {"nine.form", 9}, {"most.form", SOURCES}, {"fifty.form", 1}};
     static uint8_t form[FORM_ROOM], bytes[3][8 * 64];
-    static const uint32_t words[] = {1, 2, 3, 1, 2, 3}, ends[] = {3, 6};
-    uint32_t masks[2 * 64];
+    uint32_t words[3 * SOURCES], ends[SOURCES], masks[2 * 64];
+    for (unsigned k = 0; k < 3 * SOURCES; k++) words[k] = k % 3 + 1;
+    for (unsigned k = 0; k < SOURCES; k++) ends[k] = 3 * k + 3;
     for (unsigned i = 0; i < EXAMPLES * 200; i++) {
         struct random r = random_for(19, i);
         struct job job = {.name = "examples", .seed = r.first, .trace_len = 8192, .placing = i % 4, .want = 0};
         job.form = read_file(folder, examples[i % EXAMPLES].name, form, sizeof form);
-        job.words = as_bytes(words, 6, bytes[0]);
+        job.words = as_bytes(words, 3 * SOURCES, bytes[0]);
         job.ends = as_bytes(ends, examples[i % EXAMPLES].sources, bytes[1]);
         draw_masks(&r, i / EXAMPLES % MASK_WAYS, 64, masks);
         job.masks = as_bytes(masks, 2 * 64, bytes[2]);
@@ -534,6 +537,7 @@ static void *run_scenes(void *start)
     for (size_t i = 0; i < THREAD_ROUNDS * THREAD_NETS; i++) {
         size_t k = (i + (size_t)start) % THREAD_NETS;
         memset(trace, 0, THREAD_TRACE);
+        watch(&scenes[0].job);
         uint64_t answer = run_scene(whemdrosk_run, &scenes[k].job, trace);
         if (answer != wanted[k].answer || memcmp(trace, wanted[k].trace, THREAD_TRACE) != 0) return &scenes[k].job;
     }
@@ -550,13 +554,13 @@ static void try_threads(void)
         draw_scene(&scenes[k], &r, &wish, "several threads at once", 60);
         wanted[k].answer = run_scene(model_run, &scenes[k].job, wanted[k].trace);
     }
-    watch(&scenes[0].job);
     for (size_t i = 0; i < THREADS; i++) pthread_create(&threads[i], NULL, run_scenes, (void *)(i * (THREAD_NETS / THREADS)));
     for (size_t i = 0; i < THREADS; i++) {
         void *different;
         pthread_join(threads[i], &different);
         if (different) fail(different, "one thread among several gets another answer");
     }
+    end_watch();
     for (unsigned k = 0; k < THREADS * THREAD_ROUNDS * THREAD_NETS; k++) count_passed("several threads at once");
 }
 
@@ -575,7 +579,8 @@ int main(int count, char **arguments)
 {
     const char *folder = count > 1 ? arguments[1] : "../examples";
     unsigned nets = count > 3 ? (unsigned)strtoul(arguments[3], NULL, 10) : NETS;
-    int by_hand = count <= 4;
+    int by_hand = count <= 4 || strcmp(arguments[4], "random") != 0;
+    if (count > 4 && strcmp(arguments[4], "soak") == 0) show_progress();
     if (count > 2) first_seed = strtoull(arguments[2], NULL, 10);
     open_harness();
     if (by_hand) try_goldens();

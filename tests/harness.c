@@ -8,17 +8,20 @@
 #include <stdlib.h>
 #include <string.h>
 #include <sys/mman.h>
+#include <time.h>
 #include <unistd.h>
 
-enum { INPUT_ROOM = 9 << 20, TRACE_ROOM = 40 << 20, MARGIN = 256, CLASS_ROOM = 64, SECONDS = 600 };
+enum { INPUT_ROOM = 9 << 20, TRACE_ROOM = 40 << 20, MARGIN = 256, CLASS_ROOM = 64, CALL_SECONDS = 120, PROGRESS_SECONDS = 10 };
 
 // Memory with an unmapped page before and after it.
 struct arena { uint8_t *start, *end; };
 
 static struct arena forms, words, ends, masks, traces, model_traces;
 static const struct job *current;
+static unsigned call_seconds = CALL_SECONDS;
 static struct { const char *name; unsigned long passed; } classes[CLASS_ROOM];
 static unsigned long total, refused[256], endings[2];
+static time_t began, said;
 
 unsigned refusal_in(uint64_t answer)
 {
@@ -48,6 +51,22 @@ struct slice as_bytes(const uint32_t *numbers, size_t count, uint8_t *bytes)
 
 // ---- Counting and reporting
 
+// A line of progress where the last one is PROGRESS_SECONDS old. The clock is looked at once in 64 cases.
+static void say_progress(const char *name)
+{
+    if (said == 0 || total % 64 != 0) return;
+    time_t now = time(NULL);
+    if (now - said < PROGRESS_SECONDS) return;
+    said = now;
+    printf("%ld s: %lu cases agree, now at: %s\n", (long)(now - began), total, name);
+    fflush(stdout);
+}
+
+void show_progress(void)
+{
+    began = said = time(NULL);
+}
+
 void count_passed(const char *name)
 {
     unsigned i = 0;
@@ -55,6 +74,7 @@ void count_passed(const char *name)
     classes[i].name = name;
     classes[i].passed++;
     total++;
+    say_progress(name);
 }
 
 unsigned times_refused(unsigned refusal)
@@ -93,6 +113,12 @@ void fail(const struct job *job, const char *why)
 void watch(const struct job *job)
 {
     current = job;
+    alarm(call_seconds);
+}
+
+void end_watch(void)
+{
+    alarm(0);
 }
 
 static void stopped(int number)
@@ -128,7 +154,7 @@ void open_harness(void)
     sigaction(SIGSEGV, &action, NULL);
     sigaction(SIGBUS, &action, NULL);
     sigaction(SIGALRM, &action, NULL);
-    alarm(SECONDS);
+    if (getenv("CALL_SECONDS")) call_seconds = (unsigned)strtoul(getenv("CALL_SECONDS"), NULL, 10);
     forms = open_arena(INPUT_ROOM);
     words = open_arena(INPUT_ROOM);
     ends = open_arena(INPUT_ROOM);
@@ -166,21 +192,33 @@ static int same(struct slice a, struct slice b)
 
 // ---- One case
 
-static uint64_t call(run_call *run, const struct job *lent, uint8_t *trace)
+// One call of a run, watched: reports show the case as it was made.
+static uint64_t call(run_call *run, const struct job *job, const struct job *lent, uint8_t *trace)
 {
-    return run(lent->form.bytes, lent->form.len, lent->words.bytes, lent->words.len, lent->ends.bytes, lent->ends.len, lent->masks.bytes,
-               lent->masks.len, trace, lent->trace_len);
+    watch(job);
+    uint64_t answer = run(lent->form.bytes, lent->form.len, lent->words.bytes, lent->words.len, lent->ends.bytes, lent->ends.len,
+                          lent->masks.bytes, lent->masks.len, trace, lent->trace_len);
+    end_watch();
+    return answer;
+}
+
+static uint32_t call_check(uint32_t (*check)(const uint8_t *, size_t), const struct job *job, const struct job *lent)
+{
+    watch(job);
+    uint32_t refusal = check(lent->form.bytes, lent->form.len);
+    end_watch();
+    return refusal;
 }
 
 // Calls the library on the lent buffers and compares with what the model said and wrote.
 static void compare_library(const struct job *job, const struct job *lent, uint64_t answer, struct slice written, uint8_t pattern)
 {
     struct slice filled = fill(&traces, job->trace_len, job->placing, pattern);
-    uint64_t got = call(whemdrosk_run, lent, place(&traces, job->trace_len, job->placing));
+    uint64_t got = call(whemdrosk_run, job, lent, place(&traces, job->trace_len, job->placing));
     if (got != answer) fail_answers(job, "run", answer, got);
     if (!same(written, filled)) fail(job, "run: the traces, or bytes around them that must stay, differ");
-    uint64_t check = model_check(lent->form.bytes, lent->form.len), said = whemdrosk_check(lent->form.bytes, lent->form.len);
-    if (said != check) fail_answers(job, "check", check << 56, said << 56);
+    uint64_t check = call_check(model_check, job, lent), library = call_check(whemdrosk_check, job, lent);
+    if (library != check) fail_answers(job, "check", check << 56, library << 56);
     if (check != 0 && check != refusal_in(answer)) fail(job, "check and run refuse the form by different numbers");
     if (!same(lent->form, job->form) || !same(lent->words, job->words) || !same(lent->ends, job->ends) || !same(lent->masks, job->masks))
         fail(job, "a call changed a buffer that it may only read");
@@ -190,14 +228,13 @@ uint64_t compare(const struct job *job, const uint8_t **trace)
 {
     struct job lent = *job;
     uint8_t pattern = (uint8_t)(0x5b + 37 * total);
-    watch(job);
     lent.form = lend(&forms, job->form, job->placing);
     lent.words = lend(&words, job->words, job->placing);
     lent.ends = lend(&ends, job->ends, job->placing);
     lent.masks = lend(&masks, job->masks, job->placing);
     struct slice written = fill(&model_traces, job->trace_len, job->placing, pattern);
     uint8_t *model_trace = place(&model_traces, job->trace_len, job->placing);
-    uint64_t answer = call(model_run, &lent, model_trace);
+    uint64_t answer = call(model_run, job, &lent, model_trace);
     for (int again = 0; again <= (total % 8 == 0); again++) compare_library(job, &lent, answer, written, pattern);
     if (job->want != ANY && refusal_in(answer) != (unsigned)job->want) fail(job, "both give another refusal than the case was made for");
     refused[refusal_in(answer)] += 1;

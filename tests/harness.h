@@ -36,8 +36,13 @@ void open_harness(void);
 // Gives a case to both; ends the program with a report at the first difference. Answers what both said, and lends the model's trace.
 uint64_t compare(const struct job *job, const uint8_t **trace);
 
-// Names the case that a report has to show when a call outside compare touches memory that it must not.
+// Around each call: names the case that a report has to show when the call touches memory that it must not, or does not end in time. A call has 120 seconds,
+// or as many as the environment's CALL_SECONDS says; the time begins anew with each call, so a test may run for as long as it likes.
 void watch(const struct job *job);
+void end_watch(void);
+
+// From now on a line of progress is printed every ten seconds.
+void show_progress(void);
 
 // Reports a case as failed and ends the program.
 void fail(const struct job *job, const char *why);

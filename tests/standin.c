@@ -212,6 +212,10 @@ uint64_t whemdrosk_run(const uint8_t *form, size_t form_len, const uint8_t *word
                        const uint8_t *masks, size_t masks_len, uint8_t *trace, size_t trace_len)
 {
     masks_len = broken_length(masks_len);
+#ifdef NEVER_ENDS
+    // The longest run that is allowed does not end.
+    for (volatile size_t len = masks_len; len == 8 * (size_t)CYCLE_LIMIT;) continue;
+#endif
 #ifdef MASKS_BEFORE_STREAMS
     if (right_check(form, form_len) == 0 && refuse_masks(masks_len) == 15) return pack(15, 0, 0, 0);
 #endif

@@ -8,4 +8,5 @@ pub mod Options
 pub mod Local
 pub mod Turns
 pub mod Shapes
+pub mod Numbers
 pub mod Trials

@@ -39,23 +39,23 @@ same-is Unused Unused t = refl
 right : ℕ → ℕ → Bool
 right k x = same (decode x) (portsOf (k / 16) (k % 16))
 
-pub entry : (k : ℕ) → k < 256 → decode (getD table k 0) ≡ portsOf (k / 16) (k % 16)
+pub entry-is : (k : ℕ) → k < 256 → decode (getD table k 0) ≡ portsOf (k / 16) (k % 16)
 unfolding table right same portsOf
-entry k h = same-is (decode (getD table k 0)) (portsOf (k / 16) (k % 16)) (at right table tt k h)
+entry-is k h = same-is (decode (getD table k 0)) (portsOf (k / 16) (k % 16)) (at right table tt k h)
 
 pub ports-rule : (kind m : ℕ) → kind < 16 → m < 16 → decode (getD table (kind * 16 + m) 0) ≡ portsOf kind m
 ports-rule kind m hk hm =
     let a : (kind * 16 + m) / 16 ≡ kind = omega arith in
     let b : (kind * 16 + m) % 16 ≡ m = omega arith in
-    entry (kind * 16 + m) (omega arith) ∙ ap₂ portsOf a b
+    entry-is (kind * 16 + m) (omega arith) ∙ ap₂ portsOf a b
 
-none : (a b c d e : Bool) → cond a false (cond b false (cond c (d && false) (e && false))) ≡ false
-none true b c d e = refl
-none false true c d e = refl
-none false false true true e = refl
-none false false true false e = refl
-none false false false d true = refl
-none false false false d false = refl
+unused-m : (a b c d e : Bool) → cond a false (cond b false (cond c (d && false) (e && false))) ≡ false
+unused-m true b c d e = refl
+unused-m false true c d e = refl
+unused-m false false true true e = refl
+unused-m false false true false e = refl
+unused-m false false false d true = refl
+unused-m false false false d false = refl
 
 -- no kind takes an m above 15
 pub wide-m : (kind m : ℕ) → 15 < m → portsOf kind m ≡ Unused
@@ -64,7 +64,7 @@ wide-m kind m h =
     let a : eqb m 0 ≡ false = ne-eqb m 0 (omega arith) in
     let b : leb m 3 ≡ false = lt-leb m 3 (omega arith) in
     let d : leb m 8 ≡ false = lt-leb m 8 (omega arith) in
-    rw (a, b, d, none (leb kind 1) (leb kind 3) (leb kind 7) (leb 2 m) (leb kind 10))
+    rw (a, b, d, unused-m (leb kind 1) (leb kind 3) (leb kind 7) (leb 2 m) (leb kind 10))
 
 -- no kind is above 15
 pub wide-kind : (kind m : ℕ) → 15 < kind → portsOf kind m ≡ Unused

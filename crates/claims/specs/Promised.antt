@@ -1,4 +1,4 @@
--- The promises over lists of calls, written with `freshOf` and `stepOf`: the contracts of `sim::fresh` and `sim::step` say that these calls answer exactly so.
+-- The promises over lists of calls, written with `freshOf` and `stepOf`: the contracts of `sim::step::fresh` and `sim::step::step` say that these calls answer exactly so.
 -- proofs/Theorems.antt proves each one. `put`, the words that firings of the queue machine put, is crate queue's.
 -- Assumes nothing.
 use Prim.Native.Nat.{ℕ, _+_, _<_}

@@ -20,7 +20,7 @@ use Rattle.nets.proofs.Wirings.{port-of}
 use Rattle.nets.proofs.Places.{place-is, place-only, has-input, has-output, inp-range as net-inp, out-range as net-out}
 use Rattle.cycles.specs.Streams.{streamOf}
 use Rattle.cycles.specs.Wires.{kindAt, viewOf, producer, outPort, consumer, inPort}
-use Rattle.cycles.proofs.Numbers.{ins-agree, outs-agree}
+use Rattle.blocks.proofs.Numbers.{ins-agree, outs-agree}
 use Rattle.cycles.proofs.Wiring.{Wired}
 
 module _ (net : Net) (words ends : List ℕ) (ok : fieldsOk net ≡ true) (joins : connected net ≡ true) where

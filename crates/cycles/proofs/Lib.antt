@@ -1,5 +1,5 @@
 -- Laws of a cycle and of its states.
-pub mod Numbers
+pub mod Waiting
 pub mod Wiring
 pub mod Joins
 pub mod Stepping

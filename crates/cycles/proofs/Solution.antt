@@ -22,7 +22,7 @@ use Rattle.cycles.specs.Streams.{streamOf, maskOf}
 use Rattle.cycles.specs.Wires.{kindAt, viewOf, producer, consumer}
 use Rattle.cycles.specs.Cycle.{Signals, signalsOf}
 use Rattle.cycles.specs.Solved.{Solved}
-use Rattle.cycles.proofs.Numbers.{waits-free, leans-free}
+use Rattle.cycles.proofs.Waiting.{waits-free, leans-free}
 use Rattle.cycles.proofs.Joins.{end, out-range, inp-range, output, input, wired}
 use Rattle.cycles.proofs.Stepping.{Ranked, cycle-solves, cycle-unique}
 

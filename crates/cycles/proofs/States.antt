@@ -8,6 +8,7 @@ use native.Mathlib.Omega.{arith}
 use borrow.Author.Tests.{ltb-true, lt-ltb, le-leb}
 use lib.Dec.{leb, ltb}
 use lib.ListN.{length, getD}
+use lib.Seq.{ext-getD}
 use Rattle.blocks.specs.Folds.{allBelow}
 use Rattle.blocks.specs.Signals.{empty}
 use Rattle.blocks.specs.Equations.{freshReg}
@@ -22,7 +23,7 @@ use Rattle.nets.proofs.Nets.{size-high, m-ok}
 use Rattle.cycles.specs.Streams.{streamOf}
 use Rattle.cycles.specs.Wires.{kindAt}
 use Rattle.cycles.specs.State.{tab, regsOf, onNet, stateOf, plainKind, freshState, entryShape, shapeOk}
-use Rattle.cycles.proofs.Numbers.{fresh-plain, copies}
+use Rattle.blocks.proofs.Numbers.{fresh-plain, copies}
 
 pub length-tab : {A : Type 0} (n : ℕ) (f : ℕ → A) → length (tab n f) ≡ n
 unfolding tab
@@ -34,6 +35,10 @@ unfolding tab
 getD-tab zero f d i h = absurd (omega arith)
 getD-tab (suc n) f d zero h = refl
 getD-tab (suc n) f d (suc i) h = getD-tab n (λ i. f (suc i)) d i (omega arith)
+
+-- a list with a function's values is the list of them
+pub tab-is : (n : ℕ) (f : ℕ → ℕ) (l : List ℕ) → length l ≡ n → ((i : ℕ) → i < n → getD l i 0 ≡ f i) → l ≡ tab n f
+tab-is n f l e h = ext-getD 0 l (tab n f) (e ∙ sym (length-tab n f)) (λ i k. h i (omega arith) ∙ sym (getD-tab n f 0 i (omega arith)))
 
 module _ (net : Net) (count : ℕ) (r : ℕ → Reg) where
   -- the registers of an entry

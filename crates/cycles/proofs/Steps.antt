@@ -33,7 +33,7 @@ use Rattle.cycles.specs.Step.{refusalBy, refusedStep, steppedBy, stepBy}
 use Rattle.cycles.specs.Solved.{Solved}
 use Rattle.cycles.specs.declared.State.{State}
 use Rattle.cycles.specs.declared.Stepped.{Stepped}
-use Rattle.cycles.proofs.Numbers.{shape-plain, copies}
+use Rattle.blocks.proofs.Numbers.{shape-plain, copies}
 use Rattle.cycles.proofs.Solution.{solves}
 use Rattle.cycles.proofs.States.{getD-tab, shape-of}
 

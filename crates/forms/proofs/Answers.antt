@@ -14,11 +14,11 @@ use Rattle.nets.specs.Verdict.{VerdictIs, numberOf}
 use Rattle.nets.specs.declared.Net.{Net}
 use Rattle.nets.specs.declared.Verdict.{Verdict}
 use Rattle.nets.specs.declared.Verdict.the-variants.{Accepted, Field, Connection, Ends, DataLoop, ControlLoop}
-use Rattle.forms.specs.Form.{zeroNet, Taken, got, refused, andThen, check, takeField, takeTested, takeMany, takeValue, takeRest, takeValued, takeBlock, takeBlocks, takeCounts, takeNet, blankEnd, Outcome, loaded, denied, finish, parse, formOf}
+use Rattle.stored.specs.Form.{zeroNet, Taken, got, refused, andThen, check, takeField, takeTested, takeMany, takeValue, takeRest, takeValued, takeBlock, takeBlocks, takeCounts, takeNet, blankEnd, Outcome, loaded, denied, finish, parse, formOf}
 use Rattle.forms.specs.Calls.{answer, LoadedFrom, Loaded, Wrote}
-use Rattle.forms.specs.Reads.{netAnswer}
+use Rattle.stored.specs.Reads.{netAnswer}
 use Rattle.forms.specs.Over.{writtenOf, bufferOf}
-use Rattle.forms.specs.declared.Loading.{Loading}
+use Rattle.stored.specs.declared.Loading.{Loading}
 use Rattle.forms.specs.declared.Written.{Written}
 use Rattle.forms.specs.declared.Written.the-variants.{Bytes, Short, Unfit}
 use Rattle.forms.proofs.Fields.{sizes-ok}

@@ -14,9 +14,9 @@ use Rattle.blocks.specs.Ports.{portsOf}
 use Rattle.blocks.proofs.Folds.{and-1, and-2}
 use Rattle.nets.specs.declared.Verdict.the-variants.{Accepted}
 use Rattle.nets.proofs.Trials.{block, line, line-accepted}
-use Rattle.forms.specs.Form.{portCount, padded, zeroNet, andThen, check, takeField, takeTested, between, takeMany, takeValue, takeRest, takeValued, takeBlock, takeBlocks, takeCounts, takeNet, blank, blankEnd, loaded, finish, parse, putField, putMany, putValue, putValued, putBlock, putNet, encode, bytesOf, pack, formOf}
+use Rattle.stored.specs.Form.{portCount, padded, zeroNet, andThen, check, takeField, takeTested, between, takeMany, takeValue, takeRest, takeValued, takeBlock, takeBlocks, takeCounts, takeNet, blank, blankEnd, loaded, finish, parse, putField, putMany, putValue, putValued, putBlock, putNet, encode, bytesOf, pack, formOf}
 use Rattle.forms.specs.Calls.{Loaded, refusalOf, countOf, Wrote}
-use Rattle.forms.specs.Sizes.{All, AreBytes, SizedBlock, Sized}
+use Rattle.stored.specs.Sizes.{All, AreBytes, SizedBlock, Sized}
 use Rattle.forms.specs.declared.Written.{Written}
 use Rattle.forms.proofs.Theorems.{loads-written, writes-loaded}
 

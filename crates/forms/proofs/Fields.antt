@@ -17,10 +17,10 @@ use Rattle.nets.specs.Block.{noBlock, ins, outs, portOk, portsOk, valueOk, bloc
 use Rattle.nets.specs.Net.{blockZero, entryOk, entryAt, sizesOk, fieldsOk}
 use Rattle.nets.specs.declared.Block.{Block}
 use Rattle.nets.specs.declared.Net.{Net}
-use Rattle.forms.specs.Form.{portCount, padded, zeroBlock, loaded, parse}
-use Rattle.forms.specs.Sizes.{All, SizedBlock, Sized}
-use Rattle.forms.proofs.Lists.{all-so, all-with, all-take, all-drop, all-same, same-all}
-use Rattle.forms.proofs.Codecs.{OkValue, OkBlock, OkNet, both, portCount-le, loaded-ok}
+use Rattle.stored.specs.Form.{portCount, padded, zeroBlock, loaded, parse}
+use Rattle.stored.specs.Sizes.{All, SizedBlock, Sized}
+use Rattle.stored.proofs.Lists.{all-so, all-with, all-take, all-drop, all-same, same-all}
+use Rattle.stored.proofs.Codecs.{OkValue, OkBlock, OkNet, both, portCount-le, loaded-ok}
 
 -- ## A test that is told whether an element stands among the first n
 

@@ -1,9 +1,4 @@
--- Laws of the stored form.
-pub mod Lists
-pub mod Codecs
-pub mod Places
-pub mod Many
-pub mod Loads
+-- Laws of writing a form.
 pub mod Storing
 pub mod Writes
 pub mod Packs

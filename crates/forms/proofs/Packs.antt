@@ -12,13 +12,13 @@ use Rattle.reader.specs.Bits.{bits, bitsOf}
 use Rattle.reader.proofs.Bits.{length-bitsOf, number-take-lt}
 use Rattle.nets.specs.declared.Block.{Block}
 use Rattle.nets.specs.declared.Net.{Net}
-use Rattle.forms.specs.Form.{putField, putMany, putBlock, putNet, encode, padded, bytesOf, pack, formOf}
-use Rattle.forms.specs.Sizes.{AreBytes}
+use Rattle.stored.specs.Form.{putField, putMany, putBlock, putNet, encode, padded, bytesOf, pack, formOf}
+use Rattle.stored.specs.Sizes.{AreBytes}
 use Rattle.forms.specs.Over.{over, writtenOf, bufferOf}
 use Rattle.forms.specs.declared.Written.the-variants.{Bytes, Short}
-use Rattle.forms.proofs.Lists.{all-append, all-drop}
-use Rattle.forms.proofs.Codecs.{bitsOf-bytesOf, bytesOf-bitsOf}
-use Rattle.forms.proofs.Loads.{length-block}
+use Rattle.stored.proofs.Lists.{all-append, all-drop}
+use Rattle.stored.proofs.Codecs.{bitsOf-bytesOf, bytesOf-bitsOf}
+use Rattle.stored.proofs.Loads.{length-block}
 use Rattle.forms.proofs.Writes.{over-three, upTo, encode-bits}
 
 bits-zero : (w : ℕ) → bits w 0 ≡ replicate w false

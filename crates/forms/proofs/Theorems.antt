@@ -17,13 +17,13 @@ use Rattle.nets.specs.declared.Net.{Net}
 use Rattle.nets.specs.declared.Verdict.{Verdict}
 use Rattle.nets.specs.declared.Verdict.the-variants.{Accepted, Field, Connection, Ends, DataLoop, ControlLoop}
 use Rattle.nets.proofs.Verdicts.{verdict-unique}
-use Rattle.forms.specs.Form.{zeroNet, Outcome, loaded, denied, parse, formOf}
+use Rattle.stored.specs.Form.{zeroNet, Outcome, loaded, denied, parse, formOf}
 use Rattle.forms.specs.Calls.{answer, LoadedFrom, Loaded, refusalOf, countOf, Wrote}
-use Rattle.forms.specs.Sizes.{AreBytes, Sized}
-use Rattle.forms.specs.declared.Loading.{Loading}
+use Rattle.stored.specs.Sizes.{AreBytes, Sized}
+use Rattle.stored.specs.declared.Loading.{Loading}
 use Rattle.forms.specs.declared.Written.{Written}
 use Rattle.forms.specs.declared.Written.the-variants.{Bytes, Short, Unfit}
-use Rattle.forms.proofs.Codecs.{load-written, write-loaded}
+use Rattle.stored.proofs.Codecs.{load-written, write-loaded}
 use Rattle.forms.proofs.Fields.{fields-ok, loaded-fields}
 use Rattle.forms.proofs.Answers.{denied-numbered, only-accepted}
 

@@ -13,10 +13,10 @@ use Rattle.blocks.specs.Ports.{hasValue}
 use Rattle.nets.specs.Block.{noBlock}
 use Rattle.nets.specs.declared.Block.{Block}
 use Rattle.nets.specs.declared.Net.{Net}
-use Rattle.forms.specs.Form.{Taken, portCount, putField, putValue, putMany, putValued, putBlock, putNet, encode}
+use Rattle.stored.specs.Form.{Taken, portCount, putField, putValue, putMany, putValued, putBlock, putNet, encode}
 use Rattle.forms.specs.Over.{over, blockBits}
-use Rattle.forms.proofs.Codecs.{Codec, portCount-le, many-front, port-codec, block-codec}
-use Rattle.forms.proofs.Loads.{length-field, length-ports-bits, length-block}
+use Rattle.stored.proofs.Codecs.{Codec, portCount-le, many-front, port-codec, block-codec}
+use Rattle.stored.proofs.Loads.{length-field, length-ports-bits, length-block}
 
 pub over-nil : (l : List Bool) (at : ℕ) → l ≡ over l at []
 unfolding over

@@ -11,8 +11,8 @@ use lib.ListN.{length, drop}
 use Rattle.nets.specs.Verdict.{VerdictIs, numberOf}
 use Rattle.nets.specs.declared.Net.{Net}
 use Rattle.nets.specs.declared.Verdict.{Verdict}
-use Rattle.forms.specs.Form.{zeroNet, Outcome, loaded, denied, parse, formOf}
-use Rattle.forms.specs.declared.Loading.{Loading}
+use Rattle.stored.specs.Form.{zeroNet, Outcome, loaded, denied, parse, formOf}
+use Rattle.stored.specs.declared.Loading.{Loading}
 use Rattle.forms.specs.declared.Written.{Written}
 use Rattle.forms.specs.declared.Written.the-variants.{Bytes, Short, Unfit}
 

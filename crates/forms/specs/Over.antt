@@ -7,7 +7,7 @@ use lib.Dec.{leb}
 use lib.ListN.{length, take, drop, set}
 use Rattle.reader.specs.Bits.{bits, number}
 use Rattle.nets.specs.declared.Block.{Block}
-use Rattle.forms.specs.Form.{putBlock}
+use Rattle.stored.specs.Form.{putBlock}
 use Rattle.forms.specs.declared.Written.{Written}
 use Rattle.forms.specs.declared.Written.the-variants.{Bytes, Short}
 

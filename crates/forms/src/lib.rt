@@ -2,46 +2,16 @@
 ghost use Rattle.forms.specs.Calls.{Loaded, Wrote};
 
 mod put;
-mod read;
 
-use nets::Block;
 use nets::Net;
-
-// What loading a form finds: refusal 0 and the net, or the refusal and a zero net.
-pub struct Loading {
-    pub refusal: u8,
-    pub net: Net,
-}
+use stored::Loading;
+use stored::read;
 
 // What writing a net finds: the form's byte count, that the net is not accepted, or that the buffer is shorter than the form.
 pub enum Written {
     Bytes(usize),
     Unfit,
     Short,
-}
-
-// What reading a field that has to meet a test finds.
-enum Tested {
-    Good(u32),
-    Refused(u8),
-}
-
-// Where reading stopped: the bit position after what was read, or the refusal.
-enum Place {
-    Next(usize),
-    Stopped(u8),
-}
-
-// What reading a block's ports finds; zeros beside a refusal.
-struct PortsRead {
-    place: Place,
-    ports: [u8; 10],
-}
-
-// What reading a block finds; a zero block beside a refusal.
-struct BlockRead {
-    place: Place,
-    block: Block,
 }
 
 // The net that a form holds, or its refusal: 1 to 7 by its bits, then 8 to 11 by the check of the net.

@@ -4,13 +4,13 @@ ghost use mathlib.Core.List.{[], _++_};
 ghost use Prim.Native.Nat.{_+_, _*_, _<_, _≤_};
 ghost use lib.ListN.{length, set, take};
 ghost use Rattle.reader.specs.Bits.{odd, bits, bitsOf};
-ghost use Rattle.forms.specs.Form.{putField, putMany, putValued, putBlock, encode, formOf};
+ghost use Rattle.stored.specs.Form.{putField, putMany, putValued, putBlock, encode, formOf};
 ghost use Rattle.forms.specs.Over.{withBit, over, blockBits, writtenOf, bufferOf};
 use crate::Written;
-use crate::read::port_count;
 use blocks::kinds;
 use nets::Block;
 use nets::Net;
+use stored::read::port_count;
 
 // The byte b with its bit k set to new.
 fn with_bit(b: u8, k: usize, new: u32) -> u8

@@ -1,13 +1,10 @@
 // Runs a stored net, from the file that the first argument names or from standard input, for 6 cycles over 1, 2, 3 for every source, and prints each delivery.
-ghost use mathlib.Core.Path.{_≡_};
-ghost use Prim.Native.Nat.{_*_, _≤_, _<_};
+ghost use Prim.Native.Nat.{_*_, _≤_};
 ghost use lib.ListN.{length};
 ghost use Rattle.io.specs.Counts.{Counts};
-use cycles::State;
 use libc::STDERR_FILENO;
 use libc::STDIN_FILENO;
 use libc::STDOUT_FILENO;
-use nets::Net;
 
 // What reading gave: so many bytes at the start of the buffer, or that a read failed.
 struct Input {
@@ -15,28 +12,22 @@ struct Input {
     failed: bool,
 }
 
-// The words of 32 sources, 1, 2, 3 each, and where each source's words end.
-struct Streams {
-    words: [u32; 96],
-    ends: [u32; 32],
+fn print_number(n: u64) {
+    io::print_decimal(STDOUT_FILENO, n);
 }
 
-fn print_number(n: u32) {
-    io::print_decimal(STDOUT_FILENO, n as u64);
-}
-
-fn print_line(text: &[u8], n: u32) {
+fn print_line(text: &[u8], n: u64) {
     io::write_all(STDOUT_FILENO, text);
     print_number(n);
     io::write_all(STDOUT_FILENO, b"\n");
 }
 
-// Prints a record: its head has the cycle and, in the last 7 bits, the channel.
-fn print_record(head: u32, word: u32) {
-    print_number(head / 128);
+// Prints a record: its cycle, its channel and its word.
+fn print_record(r: u64) {
+    print_number(recorded::cycle_of(r));
     io::write_all(STDOUT_FILENO, b" ");
-    print_number(head % 128);
-    print_line(b" ", word);
+    print_number(recorded::channel_of(r) as u64);
+    print_line(b" ", recorded::word_of(r) as u64);
 }
 
 // Prints the first n records of a trace.
@@ -45,83 +36,21 @@ fn print_records(trace: &[u8], n: usize)
 {
     let mut i: usize = 0;
     while i < n {
-        print_record(
-            trace::numbers::number_at(trace, 2 * i),
-            trace::numbers::number_at(trace, 2 * i + 1),
-        );
+        print_record(recorded::record_at(trace, i));
         i += 1;
     }
 }
 
-// 1 where block b of a net is a source, else 0.
-fn source_at(net: Net, b: usize) -> usize
-    requires { ⌜ b < 64 ⌝ }
-    ensures { λ r. ⌜ r ≤ 1 ⌝ }
-{
-    let size = net.size as usize;
-    if size <= b {
-        return 0;
-    }
-    if net.blocks[b].kind == 0 { 1 } else { 0 }
-}
-
-// How many sources a net has; 32 at most, as an accepted net has no more.
-fn count_sources(net: Net) -> usize
-    ensures { λ r. ⌜ r ≤ 32 ⌝ }
-{
-    let mut k: usize = 0;
-    let mut b: usize = 0;
-    while b < 64 {
-        k += source_at(net, b);
-        b += 1;
-    }
-    if k < 32 { k } else { 32 }
-}
-
-// 1, 2, 3 for each of 32 sources; a net with fewer leaves the last words to nobody.
-fn one_two_three() -> Streams
-    ensures { λ r. ⌜ (96 ≡ length (r .words)) × (32 ≡ length (r .ends)) ⌝ }
-{
-    let mut words = [1u32; 96];
-    let mut ends = [3u32; 32];
-    let mut k: usize = 0;
-    while k < 32 {
-        words[3 * k + 1] = 2;
-        words[3 * k + 2] = 3;
-        ends[k] = 3 * k as u32 + 3;
-        k += 1;
-    }
-    Streams { words, ends }
-}
-
-// Runs a net from a state for 6 cycles. The trace has room for a delivery on every channel in each of them.
-fn run_net(net: Net, start: State) {
-    let given = one_two_three();
-    let words = given.words;
-    let ends = given.ends;
-    let masks = [4294967295u32; 12];
+// Prints what comes of a form, or the refusal that it earns. The trace has room for a delivery on every channel in each of 6 cycles.
+fn run_form(form: &[u8]) {
     let mut trace = [0u8; 6144];
-    let k = count_sources(net);
-    let ran = runs::many::run(net, start, &words, &ends[..k], &masks, &mut trace);
+    let ran = sample::run_form(form, &mut trace);
     if ran.refusal != 0 {
-        print_line(b"refused ", ran.refusal as u32);
+        print_line(b"refused ", ran.refusal as u64);
         return;
     }
     print_records(&trace, ran.records as usize);
-    print_line(b"end ", ran.cycles);
-}
-
-// Prints what comes of a form, or the refusal that it earns.
-fn run_form(form: &[u8]) {
-    let loaded = forms::load(form);
-    if loaded.refusal != 0 {
-        print_line(b"refused ", loaded.refusal as u32);
-        return;
-    }
-    let net = loaded.net;
-    let fresh = sim::step::fresh(net);
-    let start = fresh.state;
-    run_net(net, start);
+    print_line(b"end ", ran.cycles as u64);
 }
 
 // Says on standard error why the input cannot be read.

@@ -3,7 +3,7 @@ pub mod Block
 pub mod Net
 pub mod Loops
 pub mod Verdict
--- What stepping rests on.
+-- What the check promises to stepping.
 pub mod Promises
 -- Working definitions of private contracts.
 pub mod Rows

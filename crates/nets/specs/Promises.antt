@@ -1,4 +1,4 @@
--- What the check of a net promises to whoever steps it: the only page of this crate that stepping rests on.
+-- What the check of a net promises to whoever steps it: all that stepping knows of what the check's code does.
 -- Assumes nothing.
 use mathlib.Core.Path.{_≡_}
 use mathlib.Core.Bool.{Bool, true, false, cond}

@@ -68,7 +68,7 @@ pub fn number(v: Verdict) -> u8
     }
 }
 
-// The plan of a net that is refused: its arrays are 0.
+// The plan of a net that is refused. Its verdict is promised and its arrays are not: nobody reads them.
 fn refused(verdict: Verdict) -> Plan
     ensures { λ r. ⌜ r .verdict ≡ verdict ⌝ }
 {

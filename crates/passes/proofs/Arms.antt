@@ -16,7 +16,7 @@ use Rattle.blocks.specs.Shape.{forkReg, mergeReg, inShape}
 use Rattle.blocks.specs.declared.Sig.{Sig}
 use Rattle.blocks.specs.declared.Reg.{Reg}
 use Rattle.blocks.proofs.Folds.{clash, and-1, and-2, or-1}
-use Rattle.cycles.proofs.Numbers.{by-kind, no-kind}
+use Rattle.blocks.proofs.Numbers.{by-kind, no-kind}
 use Rattle.ports.specs.Places.{portAt, Apart, Put}
 use Rattle.ports.specs.Worked.{nextHere}
 use Rattle.ports.proofs.Puts.{put-none}

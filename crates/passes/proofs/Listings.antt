@@ -29,7 +29,7 @@ listed-at rows n kind count at l b lb t =
     let f : ℕ → Bool = isKindNo rows kind in
     let k : ℕ = countBelow f b in
     let low : k < count = omega (arith, count-step f n b lb t, l .count-is) in
-    let a = l .entry k low in
+    let a = l .each k low in
     (low, count-apart f (at k) b (a .1) t (a .2))
 
 pub listed-few : (rows : List ℕ) (n kind count : ℕ) (at : ℕ → ℕ) → Rowed rows n → Listed rows n kind count at → count ≤ 64

@@ -17,7 +17,7 @@ use Rattle.blocks.proofs.Local.{waits, leans, out-local, ready-local}
 use Rattle.blocks.specs.Equations.{nextOf}
 use Rattle.ports.specs.Places.{portAt}
 use Rattle.ports.specs.Worked.{nextHere}
-use Rattle.cycles.proofs.Numbers.{beyond, by-kind, ins-agree, outs-agree}
+use Rattle.blocks.proofs.Numbers.{beyond, by-kind, ins-agree, outs-agree}
 use Rattle.passes.specs.Rows.{kindNo, mNo, baseNo, insNo, outsNo, inNo, outNo, kindIn, restsAhead, restsBack, isKindNo, Rowed, Along, Listed}
 use Rattle.passes.specs.Pass.{Site, Local, Single, InTurn}
 use Rattle.passes.specs.Passed.{ahead, back, nextNo}
@@ -38,7 +38,7 @@ kind-turn : {A : Type 0} (rows : List ℕ) (n kind count : ℕ) (at : ℕ → �
 kind-turn rows n kind count at l site free =
     record {
       place = countBelow (isKindNo rows kind);
-      listed = l .entry;
+      listed = l .each;
       stands = listed-at rows n kind count at l;
       before = λ x b o p lx lb tx tb lo lp e. absurd (free b tb p lp);
     }
@@ -47,12 +47,12 @@ module _ (m value : ℕ) (xs : List ℕ) where
   -- a block with an output that waits for its inputs does not rest forward
   waits-turns : (k : ℕ) → waits (kindOf k m value xs) ≡ true → (o : ℕ) → o < outputsOf k m → restsAhead k ≡ false
   waits-turns =
-      by-kind (λ k. waits (kindOf k m value xs) ≡ true → (o : ℕ) → o < outputsOf k m → restsAhead k ≡ false) (λ e o l. clash e refl) (λ e o l. absurd (none o l))
+      by-kind (λ k. waits (kindOf k m value xs) ≡ true → (o : ℕ) → o < outputsOf k m → restsAhead k ≡ false) (λ e o l. clash e refl) (λ e o l. absurd (below-0 o l))
       (λ e o l. refl) (λ e o l. refl) (λ e o l. refl) (λ e o l. refl) (λ e o l. refl) (λ e o l. refl) (λ e o l. clash e refl) (λ e o l. clash e refl) (λ e o l. refl)
       (λ k e o l. rw (lt-leb (beyond k) 1 (omega arith), ne-eqb (beyond k) 8 (λ z. omega arith), ne-eqb (beyond k) 9 (λ z. omega arith)))
     where
-      none : (o : ℕ) → o < 0 → ⊥
-      none o l = omega arith
+      below-0 : (o : ℕ) → o < 0 → ⊥
+      below-0 o l = omega arith
 
   -- control buffers, sources and sinks do not lean on their outputs
   leans-turns : (k : ℕ) → leans (kindOf k m value xs) ≡ true → restsBack k ≡ false

@@ -20,8 +20,8 @@ use Rattle.passes.proofs.Sites.{next-here}
 use Rattle.passes.proofs.Arms.{next-left}
 
 -- no kind is done
-abbrev pub none : ℕ → Bool
-none k = false
+abbrev pub none-done : ℕ → Bool
+none-done k = false
 
 -- one kind more is done
 abbrev pub with-kind : ℕ → (ℕ → Bool) → ℕ → Bool
@@ -29,14 +29,14 @@ with-kind kind done k = eqb k kind || done k
 
 -- the kinds with registers
 abbrev pub six : ℕ → Bool
-six = with-kind 10 (with-kind 9 (with-kind 8 (with-kind 7 (with-kind 4 (with-kind 0 none)))))
+six = with-kind 10 (with-kind 9 (with-kind 8 (with-kind 7 (with-kind 4 (with-kind 0 none-done)))))
 
 module _ (rows : List ℕ) (n : ℕ) (X : ℕ → Sig) (Y : ℕ → Bool) (r₀ : ℕ → Reg) where
   pub record Went (done : ℕ → Bool) (r : ℕ → Reg) : Type 0 where
     pub went : (values : List ℕ) (xs : ℕ → List ℕ) (mask : ℕ → Bool) (b : ℕ) → b < n → done (kindNo rows b) ≡ true → r b ≡ nextNo rows values xs mask r₀ X Y b
     pub stays : (b : ℕ) → (b < n → done (kindNo rows b) ≡ false) → r b ≡ r₀ b
 
-  pub went-none : Went none r₀
+  pub went-none : Went none-done r₀
   went-none = record { went = λ values xs mask b lb t. clash t refl; stays = λ b h. refl }
 
   pub went-more : (done : ℕ → Bool) (kind : ℕ) (r r′ : ℕ → Reg) → done kind ≡ false → Went done r
@@ -64,18 +64,18 @@ module _ (rows : List ℕ) (n : ℕ) (X : ℕ → Sig) (Y : ℕ → Bool) (r₀ 
       by : (six (kindNo rows b) ≡ true) ⊎ (six (kindNo rows b) ≡ false) → r b ≡ nextNo rows values xs mask r₀ X Y b
       by (inl t) = h .went values xs mask b lb t
       by (inr f) =
-          let f9 = or-2 (eqb (kindNo rows b) 10) (with-kind 9 (with-kind 8 (with-kind 7 (with-kind 4 (with-kind 0 none)))) (kindNo rows b)) f in
-          let f8 = or-2 (eqb (kindNo rows b) 9) (with-kind 8 (with-kind 7 (with-kind 4 (with-kind 0 none))) (kindNo rows b)) f9 in
-          let f7 = or-2 (eqb (kindNo rows b) 8) (with-kind 7 (with-kind 4 (with-kind 0 none)) (kindNo rows b)) f8 in
-          let f4 = or-2 (eqb (kindNo rows b) 7) (with-kind 4 (with-kind 0 none) (kindNo rows b)) f7 in
-          let f0 = or-2 (eqb (kindNo rows b) 4) (with-kind 0 none (kindNo rows b)) f4 in
+          let f9 = or-2 (eqb (kindNo rows b) 10) (with-kind 9 (with-kind 8 (with-kind 7 (with-kind 4 (with-kind 0 none-done)))) (kindNo rows b)) f in
+          let f8 = or-2 (eqb (kindNo rows b) 9) (with-kind 8 (with-kind 7 (with-kind 4 (with-kind 0 none-done))) (kindNo rows b)) f9 in
+          let f7 = or-2 (eqb (kindNo rows b) 8) (with-kind 7 (with-kind 4 (with-kind 0 none-done)) (kindNo rows b)) f8 in
+          let f4 = or-2 (eqb (kindNo rows b) 7) (with-kind 4 (with-kind 0 none-done) (kindNo rows b)) f7 in
+          let f0 = or-2 (eqb (kindNo rows b) 4) (with-kind 0 none-done (kindNo rows b)) f4 in
           h .stays b (λ l. f)
           ∙ next-left (mNo rows b) (getD values b 0) rows (baseNo b) (r₀ b) (xs b) X Y (kindNo rows b)
-          (λ z. clash (eq-eqb (kindNo rows b) 0 z) (or-1 (eqb (kindNo rows b) 0) false f0)) (λ z. clash (eq-eqb (kindNo rows b) 4 z) (or-1 (eqb (kindNo rows b) 4) (with-kind 0 none (kindNo rows b)) f4))
-          (λ z. clash (eq-eqb (kindNo rows b) 7 z) (or-1 (eqb (kindNo rows b) 7) (with-kind 4 (with-kind 0 none) (kindNo rows b)) f7))
-          (λ z. clash (eq-eqb (kindNo rows b) 8 z) (or-1 (eqb (kindNo rows b) 8) (with-kind 7 (with-kind 4 (with-kind 0 none)) (kindNo rows b)) f8))
-          (λ z. clash (eq-eqb (kindNo rows b) 9 z) (or-1 (eqb (kindNo rows b) 9) (with-kind 8 (with-kind 7 (with-kind 4 (with-kind 0 none))) (kindNo rows b)) f9))
-          (λ z. clash (eq-eqb (kindNo rows b) 10 z) (or-1 (eqb (kindNo rows b) 10) (with-kind 9 (with-kind 8 (with-kind 7 (with-kind 4 (with-kind 0 none)))) (kindNo rows b)) f))
+          (λ z. clash (eq-eqb (kindNo rows b) 0 z) (or-1 (eqb (kindNo rows b) 0) false f0)) (λ z. clash (eq-eqb (kindNo rows b) 4 z) (or-1 (eqb (kindNo rows b) 4) (with-kind 0 none-done (kindNo rows b)) f4))
+          (λ z. clash (eq-eqb (kindNo rows b) 7 z) (or-1 (eqb (kindNo rows b) 7) (with-kind 4 (with-kind 0 none-done) (kindNo rows b)) f7))
+          (λ z. clash (eq-eqb (kindNo rows b) 8 z) (or-1 (eqb (kindNo rows b) 8) (with-kind 7 (with-kind 4 (with-kind 0 none-done)) (kindNo rows b)) f8))
+          (λ z. clash (eq-eqb (kindNo rows b) 9 z) (or-1 (eqb (kindNo rows b) 9) (with-kind 8 (with-kind 7 (with-kind 4 (with-kind 0 none-done))) (kindNo rows b)) f9))
+          (λ z. clash (eq-eqb (kindNo rows b) 10 z) (or-1 (eqb (kindNo rows b) 10) (with-kind 9 (with-kind 8 (with-kind 7 (with-kind 4 (with-kind 0 none-done)))) (kindNo rows b)) f))
           ∙ next-here rows values xs mask r₀ n w b lb X Y
 
 -- what the step of a kind that is not done needs is there still

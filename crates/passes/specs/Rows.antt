@@ -94,7 +94,7 @@ isKindNo rows kind b = eqb (kindNo rows b) kind
 -- the blocks of a kind by their numbers: `at` names the count ones among n, in block order
 pub record Listed (rows : List ℕ) (n kind count : ℕ) (at : ℕ → ℕ) : Type 0 where
   pub count-is : count ≡ countBelow (isKindNo rows kind) n
-  pub entry : (k : ℕ) → k < count → (at k < n) × (isKindNo rows kind (at k) ≡ true) × (countBelow (isKindNo rows kind) (at k) ≡ k)
+  pub each : (k : ℕ) → k < count → (at k < n) × (isKindNo rows kind (at k) ≡ true) × (countBelow (isKindNo rows kind) (at k) ≡ k)
 
 -- entry k of the list of a kind: 64 entries a kind
 abbrev pub inKind : List ℕ → ℕ → ℕ → ℕ

@@ -249,7 +249,7 @@ pub fn winner_of(m: u8, held: u32, base: usize, rows: &[u8; 768], valid: &[bool;
     held
 }
 
-// What the input of winner w shows.
+// What the input of winner w, from 1 to m, shows; nothing where w is 0, which is no winner. Of a w above m, which no winner has, nothing is promised.
 pub fn won_by(
     m: u8,
     w: u32,

@@ -15,7 +15,7 @@ use Rattle.blocks.specs.Firing.{Turn, turn}
 use Rattle.blocks.proofs.Turns.{turn-takes}
 use Rattle.cycles.specs.Wires.{View}
 use Rattle.cycles.proofs.Wiring.{Wired}
-use Rattle.queue.specs.Machine.{Queues, waiting, now, perform, after, fire, run, start}
+use Rattle.queue.specs.Machine.{Queues, waiting, turnOf, perform, after, fire, run, start}
 use Rattle.queue.proofs.Words.{look-inside, if-there}
 use Rattle.queue.proofs.Apart.{last-or}
 use Rattle.queue.proofs.Walk.{walk-grows}
@@ -39,7 +39,7 @@ find port (suc n) c = go (eqb (port n) c) refl (find port n c)
     go false q (inr r) = inr (λ j h. ⊎-elim (λ e. λ e′. eqb-false (port n) c q (ap port (sym e) ∙ e′)) (λ l. r j l) (last-or j n h))
 
 module _ (v : View) (w : Wired v) where
-  after-bounded : (b : ℕ) (s : Queues) → Bounded s → (o : Option Turn) → now v s b ≡ o → Bounded (after v b s o)
+  after-bounded : (b : ℕ) (s : Queues) → Bounded s → (o : Option Turn) → turnOf v s b ≡ o → Bounded (after v b s o)
   unfolding Bounded
   after-bounded b s h none e c = h c
   after-bounded b s h (some t) e c =
@@ -64,7 +64,7 @@ module _ (v : View) (w : Wired v) where
   run-bounded : (F : List ℕ) (s : Queues) → Bounded s → Bounded (run v F s)
   unfolding fire
   run-bounded [] s h = h
-  run-bounded (b ∷ F) s h = run-bounded F (fire v b s) (after-bounded b s h (now v s b) refl)
+  run-bounded (b ∷ F) s h = run-bounded F (fire v b s) (after-bounded b s h (turnOf v s b) refl)
 
   pub bounded : (F : List ℕ) (c : ℕ) → run v F (start v) .taken c ≤ length (run v F (start v) .puts c)
   unfolding Bounded

@@ -29,7 +29,7 @@ use Rattle.cycles.specs.State.{regsOf, plainKind, freshState}
 use Rattle.cycles.specs.Step.{refusedStep, refusalBy, steppedBy}
 use Rattle.cycles.specs.declared.State.{State}
 use Rattle.cycles.specs.declared.Stepped.{Stepped}
-use Rattle.cycles.proofs.Numbers.{beyond, by-kind}
+use Rattle.blocks.proofs.Numbers.{beyond, by-kind}
 use Rattle.cycles.proofs.Joins.{ins-are, inp-range, out-range}
 use Rattle.cycles.proofs.Solution.{solves}
 use Rattle.cycles.proofs.States.{regs-of}

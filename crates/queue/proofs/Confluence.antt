@@ -15,7 +15,7 @@ use Rattle.blocks.proofs.Options.{Below}
 use Rattle.blocks.proofs.Turns.{turn-below}
 use Rattle.cycles.specs.Wires.{View}
 use Rattle.cycles.proofs.Wiring.{Wired}
-use Rattle.queue.specs.Machine.{Queues, waiting, now, perform, after, fire, run, start}
+use Rattle.queue.specs.Machine.{Queues, waiting, turnOf, perform, after, fire, run, start}
 use Rattle.queue.proofs.Words.{prefix-refl, prefix-trans, prefix-compare, look-prefix, if-there, if-below}
 use Rattle.queue.proofs.Apart.{outputs-apart, inputs-apart}
 use Rattle.queue.proofs.Walk.{change-other, change-swap, walk-elsewhere, walk-swap, walk-grows}
@@ -41,31 +41,31 @@ module _ (v : View) (w : Wired v) where
 
 module _ (v : View) (w : Wired v) where
   -- only the net's blocks fire
-  able-inside : (b : ℕ) (a : Turn) (s : Queues) → now v s b ≡ some a → b < v .blocks
+  able-inside : (b : ℕ) (a : Turn) (s : Queues) → turnOf v s b ≡ some a → b < v .blocks
   able-inside b a s able = ltb-true b (v .blocks) (if-there (ltb b (v .blocks)) _ a able .0)
 
   -- a block that can fire does the same after another block has fired
-  now-stays : (b x : ℕ) (a′ : Turn) (s : Queues) → x < v .blocks → b ≢ x → Below (now v s b) (now v (perform v x a′ s) b)
-  now-stays b x a′ s hx ne =
+  turn-stays : (b x : ℕ) (a′ : Turn) (s : Queues) → x < v .blocks → b ≢ x → Below (turnOf v s b) (turnOf v (perform v x a′ s) b)
+  turn-stays b x a′ s hx ne =
       if-below (ltb b (v .blocks)) _ _ (λ e.
       rw (change-other b x ne suc (s .fired b))
       (turn-below (v .kind b) (s .fired b) _ _ (waiting-stays v w b x a′ s (ltb-true b (v .blocks) e) hx ne)))
 
-  fire-able : (b : ℕ) (a : Turn) (s : Queues) → now v s b ≡ some a → fire v b s ≡ perform v b a s
+  fire-able : (b : ℕ) (a : Turn) (s : Queues) → turnOf v s b ≡ some a → fire v b s ≡ perform v b a s
   unfolding fire
   fire-able b a s able = ap (after v b s) able
 
-  fire-unable : (b : ℕ) (s : Queues) → now v s b ≡ none → fire v b s ≡ s
+  fire-unable : (b : ℕ) (s : Queues) → turnOf v s b ≡ none → fire v b s ≡ s
   unfolding fire
   fire-unable b s unable = ap (after v b s) unable
 
   -- a block that can fire still can after another block has fired
-  able-stays : (b x : ℕ) (a a′ : Turn) (s : Queues) → b ≢ x → now v s b ≡ some a → now v s x ≡ some a′
-      → now v (fire v x s) b ≡ some a
-  able-stays b x a a′ s ne able able′ = rw (fire-able x a′ s able′) (now-stays b x a′ s (able-inside x a′ s able′) ne a able)
+  able-stays : (b x : ℕ) (a a′ : Turn) (s : Queues) → b ≢ x → turnOf v s b ≡ some a → turnOf v s x ≡ some a′
+      → turnOf v (fire v x s) b ≡ some a
+  able-stays b x a a′ s ne able able′ = rw (fire-able x a′ s able′) (turn-stays b x a′ s (able-inside x a′ s able′) ne a able)
 
   -- two blocks that can both fire may fire in either order
-  fire-swap : (b x : ℕ) (a a′ : Turn) (s : Queues) → b ≢ x → now v s b ≡ some a → now v s x ≡ some a′
+  fire-swap : (b x : ℕ) (a a′ : Turn) (s : Queues) → b ≢ x → turnOf v s b ≡ some a → turnOf v s x ≡ some a′
       → fire v b (fire v x s) ≡ fire v x (fire v b s)
   fire-swap b x a a′ s ne able able′ =
       fire-able b a (fire v x s) (able-stays b x a a′ s ne able able′)
@@ -83,9 +83,9 @@ module _ (v : View) (w : Wired v) where
   abbrev Moved : ℕ → List ℕ → Queues → Type 0
   Moved b F s = (F′ : List ℕ) × (run v (F ++ b ∷ []) s ≡ run v F′ (fire v b s))
 
-  move-past : (b x : ℕ) (F : List ℕ) (a : Turn) (s : Queues) → now v s b ≡ some a
-      → ((s : Queues) → now v s b ≡ some a → Moved b F s)
-      → (t : Bool) → eqb b x ≡ t → (o : Option Turn) → now v s x ≡ o → Moved b (x ∷ F) s
+  move-past : (b x : ℕ) (F : List ℕ) (a : Turn) (s : Queues) → turnOf v s b ≡ some a
+      → ((s : Queues) → turnOf v s b ≡ some a → Moved b F s)
+      → (t : Bool) → eqb b x ≡ t → (o : Option Turn) → turnOf v s x ≡ o → Moved b (x ∷ F) s
   move-past b x F a s able ih true e o q = (F ++ b ∷ [], ap (λ (y : ℕ). run v (F ++ b ∷ []) (fire v y s)) (sym (eqb-true b x e)))
   move-past b x F a s able ih false e none q = let r = ih s able in (r .0, ap (run v (F ++ b ∷ [])) (fire-unable x s q) ∙ r .1)
   move-past b x F a s able ih false e (some a′) q =
@@ -93,16 +93,16 @@ module _ (v : View) (w : Wired v) where
       (x ∷ r .0, r .1 ∙ ap (run v (r .0)) (fire-swap b x a a′ s (eqb-false b x e) able q))
 
   -- a block that can fire may fire first
-  move : (b : ℕ) (F : List ℕ) (a : Turn) (s : Queues) → now v s b ≡ some a → Moved b F s
+  move : (b : ℕ) (F : List ℕ) (a : Turn) (s : Queues) → turnOf v s b ≡ some a → Moved b F s
   move b [] a s able = ([], refl)
-  move b (x ∷ F) a s able = move-past b x F a s able (move b F a) (eqb b x) refl (now v s x) refl
+  move b (x ∷ F) a s able = move-past b x F a s able (move b F a) (eqb b x) refl (turnOf v s x) refl
 
   -- after s, the firings F and then G come to the same as G and then some others
   abbrev pub Joined : List ℕ → List ℕ → Queues → Type 0
   Joined F G s = (E : List ℕ) × (run v (F ++ G) s ≡ run v (G ++ E) s)
 
   join-past : (F : List ℕ) (g : ℕ) (G : List ℕ) (s : Queues) → ((F : List ℕ) (s : Queues) → Joined F G s)
-      → (o : Option Turn) → now v s g ≡ o → Joined F (g ∷ G) s
+      → (o : Option Turn) → turnOf v s g ≡ o → Joined F (g ∷ G) s
   join-past F g G s ih none q =
       let r = ih (F ++ g ∷ []) s in (
         r .0,
@@ -122,7 +122,7 @@ module _ (v : View) (w : Wired v) where
   -- any two lists of firings go on to one state
   pub join : (F G : List ℕ) (s : Queues) → Joined F G s
   join F [] s = (F, ap (λ (l : List ℕ). run v l s) (append-nil F))
-  join F (g ∷ G) s = join-past F g G s (λ F s. join F G s) (now v s g) refl
+  join F (g ∷ G) s = join-past F g G s (λ F s. join F G s) (turnOf v s g) refl
 
   grows-once : (b : ℕ) (s : Queues) (c : ℕ) (o : Option Turn) → IsPrefix (s .puts c) (after v b s o .puts c)
   grows-once b s c none = prefix-refl (s .puts c)
@@ -133,7 +133,7 @@ module _ (v : View) (w : Wired v) where
   unfolding fire
   grows [] s c = prefix-refl (s .puts c)
   grows (b ∷ F) s c =
-      prefix-trans (s .puts c) (fire v b s .puts c) (run v F (fire v b s) .puts c) (grows-once b s c (now v s b)) (grows F (fire v b s) c)
+      prefix-trans (s .puts c) (fire v b s .puts c) (run v F (fire v b s) .puts c) (grows-once b s c (turnOf v s b)) (grows F (fire v b s) c)
 
   grows-append : (F G : List ℕ) (s : Queues) (c : ℕ) → IsPrefix (run v F s .puts c) (run v (F ++ G) s .puts c)
   grows-append F G s c = rw (run-append F G s) (grows G (run v F s) c)

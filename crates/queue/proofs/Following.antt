@@ -18,7 +18,7 @@ use Rattle.cycles.specs.State.{regsOf, freshState}
 use Rattle.cycles.specs.Step.{refusalBy, refusedStep, steppedBy, stepBy}
 use Rattle.cycles.specs.declared.State.{State}
 use Rattle.cycles.specs.declared.Stepped.{Stepped}
-use Rattle.cycles.proofs.Numbers.{by-kind}
+use Rattle.blocks.proofs.Numbers.{by-kind}
 use Rattle.cycles.proofs.Wiring.{Wired}
 use Rattle.cycles.proofs.Joins.{wired}
 use Rattle.cycles.proofs.Solution.{Orders, solves}

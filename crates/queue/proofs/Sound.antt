@@ -16,7 +16,7 @@ use Rattle.blocks.proofs.Options.{Below, test}
 use Rattle.blocks.proofs.Turns.{turn-below}
 use Rattle.cycles.specs.Wires.{View}
 use Rattle.cycles.proofs.Wiring.{Wired}
-use Rattle.queue.specs.Machine.{Queues, change, waiting, now, perform, after, fire, run, start}
+use Rattle.queue.specs.Machine.{Queues, change, waiting, turnOf, perform, after, fire, run, start}
 use Rattle.queue.proofs.Words.{prefix-refl, prefix-trans, if-there}
 use Rattle.queue.proofs.Apart.{outputs-apart, inputs-apart}
 use Rattle.queue.proofs.Walk.{walk-grows}
@@ -65,7 +65,7 @@ module _ (n : View) where
 
   pub fire-later : (b : ℕ) (s : Queues) → Later s (fire n b s)
   unfolding fire
-  fire-later b s = act-later b s (now n s b)
+  fire-later b s = act-later b s (turnOf n s b)
 
   pub run-later : (l : List ℕ) (s : Queues) → Later s (run n l s)
   run-later [] s = later-refl s
@@ -103,23 +103,23 @@ module _ (n : View) where
       }
 
   -- What the machine sees at the front of a block's queues is what its history sees.
-  now-turn : (s : Queues) (b : ℕ) (t : Turn) → now n s b ≡ some t → (b < n .blocks) × (turn (n .kind b) (s .fired b) (waiting n s b) ≡ some t)
-  now-turn s b t e =
+  turn-inside : (s : Queues) (b : ℕ) (t : Turn) → turnOf n s b ≡ some t → (b < n .blocks) × (turn (n .kind b) (s .fired b) (waiting n s b) ≡ some t)
+  turn-inside s b t e =
       let r = if-there (ltb b (n .blocks)) (turn (n .kind b) (s .fired b) (waiting n s b)) t e in
       (ltb-true b (n .blocks) (r .0), r .1)
 
   turn-at : (s : Queues) (b : ℕ) → Sound n s b → Below (turn (n .kind b) (s .fired b) (waiting n s b)) (turnAt (n .kind b) (insOf n s b) (s .fired b))
   turn-at s b h = turn-below (n .kind b) (s .fired b) _ _ (λ i q w e. rw (← (h .took i q)) e)
 
-  at-now : (s : Queues) (b : ℕ) → b < n .blocks → Sound n s b → Below (turnAt (n .kind b) (insOf n s b) (s .fired b)) (now n s b)
-  at-now s b hb h t e =
+  at-turn : (s : Queues) (b : ℕ) → b < n .blocks → Sound n s b → Below (turnAt (n .kind b) (insOf n s b) (s .fired b)) (turnOf n s b)
+  at-turn s b hb h t e =
       rw (lt-ltb b (n .blocks) hb) (turn-below (n .kind b) (s .fired b) (front (insOf n s b) (pos (n .kind b) (insOf n s b) (s .fired b))) (waiting n s b) (λ i q w e. rw (h .took i q) e) t e)
 
   module _ (w : Wired n) where
-    act-sound : (b : ℕ) (s : Queues) → AllSound n s → (o : Option Turn) → now n s b ≡ o → AllSound n (after n b s o)
+    act-sound : (b : ℕ) (s : Queues) → AllSound n s → (o : Option Turn) → turnOf n s b ≡ o → AllSound n (after n b s o)
     act-sound b s h none e a ha = h a ha
     act-sound b s h (some t) e a ha =
-        let nt : (b < n .blocks) × (turn (n .kind b) (s .fired b) (waiting n s b) ≡ some t) = now-turn s b t e in
+        let nt : (b < n .blocks) × (turn (n .kind b) (s .fired b) (waiting n s b) ≡ some t) = turn-inside s b t e in
         let hb : b < n .blocks = nt .0 in
         test (eqb a b)
         (λ q. subst (λ (x : ℕ). Sound n (perform n b t s) x) (sym (eqb-true a b q))
@@ -132,7 +132,7 @@ module _ (n : View) where
 
     pub fire-sound : (b : ℕ) (s : Queues) → AllSound n s → AllSound n (fire n b s)
     unfolding fire
-    fire-sound b s h = act-sound b s h (now n s b) refl
+    fire-sound b s h = act-sound b s h (turnOf n s b) refl
 
     -- Firing number `k` has been done once the block has been fired, if it could be done and those before it are done.
     pub fire-pushes : (b : ℕ) → b < n .blocks → (s : Queues) → AllSound n s → (k : ℕ) → k ≤ s .fired b → Can (n .kind b) (insOf n s b) k → k < (fire n b s) .fired b
@@ -141,7 +141,7 @@ module _ (n : View) where
         test (ltb k (s .fired b))
         (λ l. omega (arith, ltb-true k (s .fired b) l, fire-later b s .fired-grow b))
         (λ l. let z : k ≡ s .fired b = omega (arith, ltb-false k (s .fired b) l) in
-        let e : now n s b ≡ some (c .0) = at-now s b hb (h b hb) (c .0) (subst (λ (x : ℕ). turnAt (n .kind b) (insOf n s b) x ≡ some (c .0)) z (c .1)) in
+        let e : turnOf n s b ≡ some (c .0) = at-turn s b hb (h b hb) (c .0) (subst (λ (x : ℕ). turnAt (n .kind b) (insOf n s b) x ≡ some (c .0)) z (c .1)) in
         rw (e, eq-eqb b b refl) (omega arith))
 
     pub run-sound : (l : List ℕ) (s : Queues) → AllSound n s → AllSound n (run n l s)

@@ -34,8 +34,8 @@ abbrev pub waiting : View → Queues → ℕ → ℕ → Option ℕ
 waiting v s b i = getElem? (s .puts (v .inp b i)) (s .taken (v .inp b i))
 
 -- what block b does, if it is a block of the net and can fire
-abbrev pub now : View → Queues → ℕ → Option Turn
-now v s b = cond (ltb b (v .blocks)) (turn (v .kind b) (s .fired b) (waiting v s b)) none
+abbrev pub turnOf : View → Queues → ℕ → Option Turn
+turnOf v s b = cond (ltb b (v .blocks)) (turn (v .kind b) (s .fired b) (waiting v s b)) none
 
 -- the queues after block b has taken and put what t says
 abbrev pub perform : View → ℕ → Turn → Queues → Queues
@@ -52,7 +52,7 @@ after v b s none = s
 after v b s (some t) = perform v b t s
 
 unfoldable pub fire : View → ℕ → Queues → Queues
-fire v b s = after v b s (now v s b)
+fire v b s = after v b s (turnOf v s b)
 
 -- a list of firings
 abbrev pub run : View → List ℕ → Queues → Queues

@@ -20,16 +20,16 @@ use Rattle.cycles.specs.declared.Stepped.{Stepped}
 use Rattle.cycles.proofs.Steps.{shape-kept}
 use Rattle.ports.specs.Places.{sigAt, readyAt}
 use Rattle.passes.specs.Passed.{nextNo}
-use Rattle.sim.specs.Flat.{Flat}
+use Rattle.rows.specs.Flat.{Flat}
 use Rattle.sim.specs.Calls.{stepOf}
-use Rattle.sim.specs.Ends.{streamAt, maskAt}
-use Rattle.sim.specs.Wires.{Worked}
+use Rattle.rows.specs.Ends.{streamAt, maskAt}
+use Rattle.signals.specs.Wires.{Worked}
 use Rattle.trace.specs.Records.{traceOf, recordsOf}
 use Rattle.trace.proofs.RecordLists.{records-few}
 use Rattle.trace.proofs.TraceBytes.{length-trace, trace-append, tail-lent, tail-written}
 use Rattle.runs.specs.declared.Run.{Run}
 use Rattle.runs.specs.Runs.{Ran, recordsIn, answerOf, stepAt, ranFor, written}
-use Rattle.runs.specs.Cycled.{NoRoom, Went}
+use Rattle.advance.specs.Cycled.{NoRoom, Went}
 use Rattle.runs.proofs.StepLaws.{records-are, went-is}
 use Rattle.runs.proofs.RunLaws.{ran-went, ran-ends, ran-stays}
 
@@ -124,10 +124,10 @@ lent-long a l = ap length (tail-lent a l) ∙ length-drop a l
 
 -- nothing written
 pub lent-back : (a : ℕ) (l out' : List ℕ) → out' ≡ midOf a (length l - a) l → putMid a (length l - a) l out' ≡ l
-lent-back a l out' e = tail-written a 0 l [] out' e ∙ ap (λ (k : ℕ). take a l ++ drop k l) none ∙ take-append-drop a l
+lent-back a l out' e = tail-written a 0 l [] out' e ∙ ap (λ (k : ℕ). take a l ++ drop k l) no-more ∙ take-append-drop a l
   where
-    none : a + 0 ≡ a
-    none = omega arith
+    no-more : a + 0 ≡ a
+    no-more = omega arith
 
 -- the trace keeps its length
 pub trace-long : (R trace₀ : List ℕ) (used : ℕ) → length R ≡ used → 8 * used ≤ length trace₀ → length (written R trace₀) ≡ length trace₀

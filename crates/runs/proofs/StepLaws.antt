@@ -23,16 +23,16 @@ use Rattle.cycles.specs.declared.Stepped.{Stepped}
 use Rattle.cycles.proofs.Steps.{mark-at, word-at}
 use Rattle.ports.specs.Places.{sigAt, readyAt}
 use Rattle.passes.specs.Passed.{nextNo}
-use Rattle.sim.specs.Flat.{Flat}
+use Rattle.rows.specs.Flat.{Flat}
 use Rattle.sim.specs.Calls.{stepOf}
-use Rattle.sim.specs.Ends.{streamAt, maskAt}
-use Rattle.sim.specs.Wires.{Worked}
+use Rattle.rows.specs.Ends.{streamAt, maskAt}
+use Rattle.signals.specs.Wires.{Worked}
 use Rattle.sim.proofs.Answers.{not-refused}
 use Rattle.sim.proofs.Results.{signals-are, state-is}
 use Rattle.trace.specs.Records.{recordsBelow, recordsOf}
 use Rattle.trace.proofs.RecordLists.{records-same, records-no}
 use Rattle.runs.specs.Runs.{recordsIn}
-use Rattle.runs.specs.Cycled.{Went}
+use Rattle.advance.specs.Cycled.{Went}
 use Rattle.runs.proofs.Induction.{from-on}
 
 -- channels beyond n add no record where nothing moves on them

@@ -1,7 +1,6 @@
 // Runs: many cycles in one call, each delivery a record in the trace.
 use cycles::State;
 
-pub mod cycle;
 pub mod many;
 
 // What a run returns: its refusal, or 0; its ending; the cycles done, the records written, and the state.

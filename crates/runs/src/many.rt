@@ -8,17 +8,17 @@ ghost use Rattle.nets.proofs.Decided.{accepted};
 ghost use Rattle.cycles.specs.Streams.{endsFit};
 ghost use Rattle.cycles.specs.State.{shapeOk};
 ghost use Rattle.passes.specs.Rows.{Kinds};
-ghost use Rattle.sim.specs.Flat.{Flat};
+ghost use Rattle.rows.specs.Flat.{Flat};
 ghost use Rattle.trace.specs.Numbers.{given};
 ghost use Rattle.runs.specs.Runs.{begun, ranFor, answerOf, written, runOf, traceAfter};
 use crate::Run;
-use crate::cycle::cycle;
+use advance::cycle::cycle;
 use cycles::State;
 use nets::Net;
 use nets::Plan;
-use sim::Sorted;
-use sim::flat::pick;
-use sim::flat::sort_kinds;
+use rows::Sorted;
+use rows::flat::pick;
+use rows::flat::sort_kinds;
 use trace::numbers::number_in;
 use trace::numbers::numbers_in;
 
@@ -163,12 +163,12 @@ fn run_accepted(
     let n = net.size as usize;
     let mut rows = [0u8; 768];
     let mut values = [0u32; 64];
-    sim::flat::flatten(net, n, &mut rows, &mut values);
-    if !sim::checks::shape_ok(state, n, &rows) {
+    rows::flat::flatten(net, n, &mut rows, &mut values);
+    if !rows::checks::shape_ok(state, n, &rows) {
         return refused(13, state);
     }
     let sorted = sort_kinds(n, &rows);
-    if !sim::checks::ends_fit(sorted.counts[0], numbers_in(bytes, stream), end_bytes, ends) {
+    if !rows::checks::ends_fit(sorted.counts[0], numbers_in(bytes, stream), end_bytes, ends) {
         return refused(14, state);
     }
     let count = numbers_in(mask_bytes, masks);

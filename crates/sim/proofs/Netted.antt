@@ -29,13 +29,13 @@ use Rattle.cycles.specs.Streams.{endBefore, endsFit, streamOf, maskOf}
 use Rattle.cycles.specs.Wires.{View, viewOf, kindAt, producer, outPort, consumer, inPort}
 use Rattle.cycles.specs.Cycle.{Signals, nextAt}
 use Rattle.cycles.specs.Solved.{Solved}
-use Rattle.cycles.proofs.Numbers.{ins-agree, outs-agree}
+use Rattle.blocks.proofs.Numbers.{ins-agree, outs-agree}
 use Rattle.cycles.proofs.Joins.{ins-are, outs-are, inp-range, out-range, output, input, leaves-only, enters-only}
 use Rattle.passes.specs.Rows.{kindNo, mNo, insNo, outsNo, inNo, outNo, kindIn, isKindNo, restsAhead, restsBack, Rowed, Order, Whole}
 use Rattle.passes.specs.Passed.{nextNo}
-use Rattle.sim.specs.Flat.{Flat}
-use Rattle.sim.specs.Ends.{numberNo, streamAt, maskAt}
-use Rattle.sim.specs.Wires.{Worked}
+use Rattle.rows.specs.Flat.{Flat}
+use Rattle.rows.specs.Ends.{numberNo, streamAt, maskAt}
+use Rattle.signals.specs.Wires.{Worked}
 
 -- every port entry is a channel, or 0
 port-any : (b : Block) (channels : ℕ) → channels ≤ 128 → blockOk b channels ≡ true → (i : ℕ) → i < 10 → getD (b .ports) i 0 < 128

@@ -8,7 +8,6 @@ use native.Mathlib.Omega.{arith}
 use borrow.Author.Tests.{lt-ltb, le-ltb, ltb-true, ltb-false, eqb-true}
 use lib.Dec.{eqb, leb, ltb}
 use lib.ListN.{length, getD}
-use lib.Seq.{ext-getD}
 use Rattle.blocks.specs.Folds.{one, allBelow}
 use Rattle.blocks.specs.Kinds.{kindOf}
 use Rattle.blocks.specs.Shape.{zeroReg, inShape}
@@ -28,18 +27,18 @@ use Rattle.cycles.specs.State.{tab, regsOf, onNet, plainKind, entryShape, shape
 use Rattle.cycles.specs.Step.{stateAfter, steppedBy}
 use Rattle.cycles.specs.declared.State.{State}
 use Rattle.cycles.specs.declared.Stepped.{Stepped}
-use Rattle.cycles.proofs.Numbers.{by-kind}
-use Rattle.cycles.proofs.States.{length-tab, getD-tab}
+use Rattle.blocks.proofs.Numbers.{by-kind}
+use Rattle.cycles.proofs.States.{tab-is}
 use Rattle.cycles.proofs.Solution.{unique-in}
 use Rattle.ports.specs.Places.{sigAt, readyAt}
 use Rattle.passes.specs.Rows.{kindNo, mNo, regIn, Shaped, Listed}
 use Rattle.passes.specs.Passed.{nextNo}
-use Rattle.sim.specs.Flat.{Flat}
-use Rattle.sim.specs.Ends.{streamAt, maskAt, Fitting}
-use Rattle.sim.specs.Wires.{Worked, MovedIs}
-use Rattle.sim.specs.Checks.{entryIn, shapeNo}
+use Rattle.rows.specs.Flat.{Flat}
+use Rattle.rows.specs.Ends.{streamAt, maskAt, Fitting}
+use Rattle.signals.specs.Wires.{Worked, MovedIs}
+use Rattle.rows.specs.Checks.{entryIn, shapeNo}
 use Rattle.sim.proofs.Netted.{number-same, solved-of, next-same}
-use Rattle.sim.proofs.Ascends.{fitting-of}
+use Rattle.rows.proofs.Ascends.{fitting-of}
 
 -- the shape of registers does not depend on a value
 shape-any : (m v : ℕ) (r : Reg) (k : ℕ) → inShape (kindOf k m 0 []) r ≡ inShape (kindOf k m v []) r
@@ -113,15 +112,12 @@ module _ (net : Net) (plan : Plan) (p : Promises net plan) (rows values : List �
 
   pub marks-are : (delivered words : List ℕ) → MovedIs (net .channels) (sigAt valid word) (readyAt taken) delivered words → delivered ≡ tab 128 (λ c. one (moves net g c))
   marks-are delivered words m =
-      ext-getD 0 delivered (tab 128 (λ c. one (moves net g c))) (m .marks-long ∙ sym (length-tab 128 (λ c. one (moves net g c))))
-      (λ c h. let l : c < 128 = omega (arith, m .marks-long) in m .mark c l ∙ ap one (moves-are c) ∙ sym (getD-tab 128 (λ c. one (moves net g c)) 0 c l))
+      tab-is 128 (λ c. one (moves net g c)) delivered (m .marks-long) (λ c h. m .mark c h ∙ ap one (moves-are c))
 
   pub words-are : (delivered words : List ℕ) → MovedIs (net .channels) (sigAt valid word) (readyAt taken) delivered words
       → words ≡ tab 128 (λ c. cond (moves net g c) (g .shows c .word) 0)
   words-are delivered words m =
-      ext-getD 0 words (tab 128 (λ c. cond (moves net g c) (g .shows c .word) 0)) (m .words-long ∙ sym (length-tab 128 (λ c. cond (moves net g c) (g .shows c .word) 0)))
-      (λ c h. let l : c < 128 = omega (arith, m .words-long) in
-      m .word c l ∙ carried c (ltb c (net .channels)) refl ∙ sym (getD-tab 128 (λ c. cond (moves net g c) (g .shows c .word) 0) 0 c l))
+      tab-is 128 (λ c. cond (moves net g c) (g .shows c .word) 0) words (m .words-long) (λ c h. m .word c h ∙ carried c (ltb c (net .channels)) refl)
     where
       carried : (c : ℕ) (t : Bool) → ltb c (net .channels) ≡ t
           → cond (ltb c (net .channels) && (sigAt valid word c .valid && readyAt taken c)) (sigAt valid word c .word) 0 ≡ cond (moves net g c) (g .shows c .word) 0
@@ -152,12 +148,8 @@ module _ (net : Net) (plan : Plan) (p : Promises net plan) (rows values : List �
 
     pub state-is : (count : ℕ) → count ≡ s .count + 1 → _≡_ {A = State} (record { count = count; words = words; marks = marks }) (stateAfter net s stream ends g)
     state-is count e =
-        let ws : words ≡ tab 64 (λ b. after b .word) =
-        ext-getD 0 words (tab 64 (λ b. after b .word)) (words-long ∙ sym (length-tab 64 (λ b. after b .word)))
-        (λ b h. let l : b < 64 = omega arith in ap (λ (z : Reg). z .word) (regs-are b l) ∙ sym (getD-tab 64 (λ b. after b .word) 0 b l)) in
-        let ms : marks ≡ tab 64 (λ b. after b .marks) =
-        ext-getD 0 marks (tab 64 (λ b. after b .marks)) (marks-long ∙ sym (length-tab 64 (λ b. after b .marks)))
-        (λ b h. let l : b < 64 = omega arith in ap (λ (z : Reg). z .marks) (regs-are b l) ∙ sym (getD-tab 64 (λ b. after b .marks) 0 b l)) in
+        let ws : words ≡ tab 64 (λ b. after b .word) = tab-is 64 (λ b. after b .word) words words-long (λ b h. ap (λ (z : Reg). z .word) (regs-are b h)) in
+        let ms : marks ≡ tab 64 (λ b. after b .marks) = tab-is 64 (λ b. after b .marks) marks marks-long (λ b h. ap (λ (z : Reg). z .marks) (regs-are b h)) in
         λ i. record { count = e i; words = ws i; marks = ms i }
 
     -- the answer of a step that is not refused
@@ -170,8 +162,7 @@ module _ (net : Net) (plan : Plan) (p : Promises net plan) (rows values : List �
 pub filled-tab : (net : Net) (f : ℕ → Reg) (get : Reg → ℕ) (d : List ℕ) → get empty ≡ 0 → length d ≡ 64
     → ((k : ℕ) → k < 64 → getD d k 0 ≡ cond (ltb k (net .size) && true) (get (f k)) 0) → d ≡ tab 64 (λ b. get (onNet net f b))
 filled-tab net f get d none long h =
-    ext-getD 0 d (tab 64 (λ b. get (onNet net f b))) (long ∙ sym (length-tab 64 (λ b. get (onNet net f b))))
-    (λ k l. let q : k < 64 = omega (arith, long) in h k q ∙ by k (ltb k (net .size)) ∙ sym (getD-tab 64 (λ b. get (onNet net f b)) 0 k q))
+    tab-is 64 (λ b. get (onNet net f b)) d long (λ k l. h k l ∙ by k (ltb k (net .size)))
   where
     by : (k : ℕ) (t : Bool) → cond (t && true) (get (f k)) 0 ≡ get (cond t (f k) empty)
     by k true = refl

@@ -10,21 +10,21 @@ ghost use Rattle.cycles.specs.Cycle.{signalsOf};
 ghost use Rattle.cycles.specs.Step.{refusedStep, steppedBy, stepBy};
 ghost use Rattle.nets.specs.Promises.{Planned, Promises};
 ghost use Rattle.sim.specs.Calls.{freshOf, stepOf};
-ghost use Rattle.sim.specs.Flat.{Flat};
+ghost use Rattle.rows.specs.Flat.{Flat};
 ghost use Rattle.passes.specs.Rows.{Kinds};
 use crate::Fresh;
-use crate::Sorted;
-use crate::checks::ends_fit;
-use crate::checks::shape_ok;
-use crate::flat::flatten;
-use crate::flat::pick;
-use crate::flat::sort_kinds;
-use crate::wires::moves_of;
-use crate::wires::wires;
 use cycles::State;
 use cycles::Stepped;
 use nets::Net;
 use nets::Plan;
+use rows::Sorted;
+use rows::checks::ends_fit;
+use rows::checks::shape_ok;
+use rows::flat::flatten;
+use rows::flat::pick;
+use rows::flat::sort_kinds;
+use signals::wires::moves_of;
+use signals::wires::wires;
 
 // The fresh state of n blocks.
 fn fresh_state(net: Net, n: usize) -> State

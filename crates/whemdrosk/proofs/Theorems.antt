@@ -10,7 +10,7 @@ use borrow.Author.Tests.{eq-eqb, ne-eqb}
 use lib.ListN.{length}
 use Rattle.nets.specs.declared.Net.{Net}
 use Rattle.nets.proofs.Decided.{accepted-is}
-use Rattle.forms.specs.declared.Loading.{Loading}
+use Rattle.stored.specs.declared.Loading.{Loading}
 use Rattle.forms.proofs.Theorems.{loaded-unique, loaded-accepted, loaded-numbers}
 use Rattle.runs.specs.Runs.{Ran}
 use Rattle.whemdrosk.specs.Exports.{Checked, packedOf, refusalOver, ranOver, packedRan, RanForm}

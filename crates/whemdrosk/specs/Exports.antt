@@ -9,7 +9,7 @@ use lib.ListN.{length}
 use Rattle.nets.specs.declared.Net.{Net}
 use Rattle.nets.proofs.Decided.{accepted}
 use Rattle.forms.specs.Calls.{Loaded}
-use Rattle.forms.specs.declared.Loading.{Loading}
+use Rattle.stored.specs.declared.Loading.{Loading}
 use Rattle.cycles.specs.Step.{refusalBy}
 use Rattle.cycles.specs.declared.State.{State}
 use Rattle.sim.specs.Calls.{freshOf}

@@ -4,7 +4,7 @@ use native.Mathlib.Omega.{arith}
 use mathlib.Core.Path.{_≡_, sym, _∙_}
 use lib.ListN.{length}
 use borrow.Author.Needs.{needs}
-use Rattle.forms.proofs.Codecs.{portCount-le}
+use Rattle.stored.proofs.Codecs.{portCount-le}
 use Rattle.forms.proofs.Writes.{bits-valued, bits-plain, bits-block}
 use Rattle.forms.proofs.put.block_bits.Statement.{statement}
 use Rattle.forms.proofs.put.block_bits.Tie as tie

@@ -7,7 +7,7 @@ use mathlib.Core.Path.{_≡_, refl, sym, _∙_, ap}
 use lib.ListN.{length, length-map}
 use borrow.Author.Needs.{needs}
 use Rattle.nets.specs.Net.{blockAt}
-use Rattle.forms.specs.Form.{putMany}
+use Rattle.stored.specs.Form.{putMany}
 use Rattle.forms.proofs.Writes.{upTo, bits-most, encode-bits, turn-bits}
 use Rattle.forms.proofs.put.form_bits.Statement.{statement}
 use Rattle.forms.proofs.put.form_bits.Tie as tie

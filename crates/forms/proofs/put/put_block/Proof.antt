@@ -9,7 +9,7 @@ use lib.ListN.{length}
 use borrow.Author.Needs.{needs}
 use Rattle.reader.specs.Bits.{bits, bitsOf}
 use Rattle.reader.proofs.Bits.{length-bitsOf}
-use Rattle.forms.specs.Form.{putValued}
+use Rattle.stored.specs.Form.{putValued}
 use Rattle.forms.specs.Over.{over}
 use Rattle.forms.proofs.Writes.{bits-block, over-block}
 use Rattle.forms.proofs.put.put_block.Statement.{statement}

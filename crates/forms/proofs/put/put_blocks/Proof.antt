@@ -11,7 +11,7 @@ use borrow.Author.Needs.{needs}
 use Rattle.reader.specs.Bits.{bitsOf}
 use Rattle.reader.proofs.Bits.{length-bitsOf}
 use Rattle.nets.specs.Net.{blockAt}
-use Rattle.forms.specs.Form.{putMany, putBlock, encode}
+use Rattle.stored.specs.Form.{putMany, putBlock, encode}
 use Rattle.forms.specs.Over.{over}
 use Rattle.forms.proofs.Writes.{over-nil, upTo, bits-most, turn-bits, turn-room, turn-over}
 use Rattle.forms.proofs.put.put_blocks.Statement.{statement}

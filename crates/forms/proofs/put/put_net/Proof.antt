@@ -8,7 +8,7 @@ use mathlib.Core.Bool.{Bool}
 use lib.ListN.{length}
 use borrow.Author.Needs.{needs}
 use Rattle.reader.specs.Bits.{bits, bitsOf}
-use Rattle.forms.specs.Form.{encode, formOf}
+use Rattle.stored.specs.Form.{encode, formOf}
 use Rattle.forms.specs.Over.{over}
 use Rattle.forms.specs.declared.Written.the-variants.{Bytes}
 use Rattle.forms.proofs.Writes.{upTo, encode-bits}

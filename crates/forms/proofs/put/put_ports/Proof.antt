@@ -11,7 +11,7 @@ use borrow.Author.Needs.{needs}
 use Rattle.reader.specs.Bits.{bits, bitsOf}
 use Rattle.reader.proofs.Bits.{length-bitsOf}
 use Rattle.forms.specs.Over.{over}
-use Rattle.forms.specs.Form.{putField, putMany}
+use Rattle.stored.specs.Form.{putField, putMany}
 use Rattle.forms.proofs.Writes.{over-nil, ports-more}
 use Rattle.forms.proofs.put.put_ports.Statement.{statement}
 use Rattle.forms.proofs.put.put_ports.Tie as tie

@@ -9,9 +9,9 @@ use lib.ListN.{length, take}
 use borrow.Author.Needs.{needs}
 use Rattle.reader.specs.Bits.{bitsOf}
 use Rattle.reader.proofs.Bits.{length-bitsOf}
-use Rattle.forms.specs.Form.{portCount, putField, putMany}
+use Rattle.stored.specs.Form.{portCount, putField, putMany}
 use Rattle.forms.specs.Over.{over}
-use Rattle.forms.proofs.Codecs.{portCount-le}
+use Rattle.stored.proofs.Codecs.{portCount-le}
 use Rattle.forms.proofs.Writes.{bits-valued, bits-plain, over-plain, over-valued}
 use Rattle.forms.proofs.put.put_valued.Statement.{statement}
 use Rattle.forms.proofs.put.put_valued.Tie as tie

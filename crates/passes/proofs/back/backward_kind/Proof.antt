@@ -46,14 +46,14 @@ few : (c : tie.In-loop Inv-loop μ-loop) → getD (c .before .before .before .ar
 few c = listed-few (c .before .before .before .args .rows .now) (c .before .before .before .args .n) (kind c) _ _ (c .before .before .before .pre .0) (list c)
 
 inside : (c : tie.In-loop Inv-loop μ-loop) → inKind (c .before .before .before .args .lists .now) (kind c) (c .before .loop .i) < c .before .before .before .args .n
-inside c = list c .entry (c .before .loop .i) (omega arith) .0
+inside c = list c .each (c .before .loop .i) (omega arith) .0
 
 small : (c : tie.In-loop Inv-loop μ-loop) → inKind (c .before .before .before .args .lists .now) (kind c) (c .before .loop .i) < 64
 small c = omega (arith, inside c, c .before .before .before .pre .0 .few)
 
 -- a block of the list has the kind
 same : (c : tie.In-loop Inv-loop μ-loop) → kindNo (c .before .before .before .args .rows .now) (inKind (c .before .before .before .args .lists .now) (kind c) (c .before .loop .i)) ≡ kind c
-same c = eqb-true _ _ (list c .entry (c .before .loop .i) (omega arith) .1)
+same c = eqb-true _ _ (list c .each (c .before .loop .i) (omega arith) .1)
 
 mul-first : tie.Need-mul-first Inv-loop μ-loop
 mul-first c = omega (arith, c .pre .1 .1 .0 .0)

@@ -49,21 +49,21 @@ few : (c : tie.In-loop Inv-loop μ-loop) → getD (c .before .before .before .ar
 few c = listed-few (c .before .before .before .args .rows .now) (c .before .before .before .args .n) (kind c) _ _ (c .before .before .before .pre .0) (list c)
 
 inside : (c : tie.In-loop Inv-loop μ-loop) → inKind (c .before .before .before .args .lists .now) (kind c) (c .before .loop .i) < c .before .before .before .args .n
-inside c = list c .entry (c .before .loop .i) (omega arith) .0
+inside c = list c .each (c .before .loop .i) (omega arith) .0
 
 small : (c : tie.In-loop Inv-loop μ-loop) → inKind (c .before .before .before .args .lists .now) (kind c) (c .before .loop .i) < 64
 small c = omega (arith, inside c, c .before .before .before .pre .0 .few)
 
 -- a block of the list has the kind
 same : (c : tie.In-loop Inv-loop μ-loop) → kindNo (c .before .before .before .args .rows .now) (inKind (c .before .before .before .args .lists .now) (kind c) (c .before .loop .i)) ≡ kind c
-same c = eqb-true _ _ (list c .entry (c .before .loop .i) (omega arith) .1)
+same c = eqb-true _ _ (list c .each (c .before .loop .i) (omega arith) .1)
 
 -- the block at turn i stands at no earlier turn
 fresh : (c : tie.In-loop Inv-loop μ-loop) (k : ℕ) → k < c .before .loop .i
     → inKind (c .before .before .before .args .lists .now) (kind c) k ≡ inKind (c .before .before .before .args .lists .now) (kind c) (c .before .loop .i) → ⊥
 fresh c k lk e =
-    let s = list c .entry k (omega arith) in
-    let t = list c .entry (c .before .loop .i) (omega arith) in
+    let s = list c .each k (omega arith) in
+    let t = list c .each (c .before .loop .i) (omega arith) in
     let z : k ≡ c .before .loop .i = sym (s .2) ∙ ap (countBelow (isKindNo (c .before .before .before .args .rows .now) (kind c))) e ∙ t .2 in
     omega arith
 
@@ -115,7 +115,7 @@ next-one-requires c κs =
     let at : ℕ = inKind (a .lists .now) (a .kind) (l .i) in
     let m : ℕ = mNo (a .rows .now) at in
     let still : regIn (l .words) (l .marks) at ≡ regIn (a .words .now) (a .marks .now) at = l .inv .4 at (fresh (c .before .before .before .before)) in
-    let s = c .before .before .before .before .before .before .before .pre .1 .1 .1 .0 at low (list (c .before .before .before .before) .entry (l .i) (omega arith) .1) in (
+    let s = c .before .before .before .before .before .before .before .pre .1 .1 .1 .0 at low (list (c .before .before .before .before) .each (l .i) (omega arith) .1) in (
       w .ported at low,
       (
         subst (λ (k : ℕ). mOk k m ≡ true) (same (c .before .before .before .before)) (w .sound at low),
@@ -175,7 +175,7 @@ returns c =
           subst (λ (x : ℕ). regIn (l .words) (l .marks) x ≡ nextNo (a .rows .now) values xs mask (regIn (a .words .now) (a .marks .now)) (sigAt (a .valid .now) (a .word .now)) (readyAt (a .ready .now)) x) (p .1) (l .inv .3 values xs mask (countBelow (isKindNo (a .rows .now) (a .kind)) b) (omega (arith, p .0))),
       (
         λ b h. l .inv .4 b (λ j lj e.
-            let s = k .entry j (omega arith) in
+            let s = k .each j (omega arith) in
             clash (subst (λ (x : ℕ). isKindNo (a .rows .now) (a .kind) x ≡ true) e (s .1)) (h (subst (λ (x : ℕ). x < a .n) e (s .0)))),
         (l .inv .1, l .inv .2),
       ),

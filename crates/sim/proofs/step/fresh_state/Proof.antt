@@ -12,7 +12,7 @@ use Rattle.blocks.specs.Equations.{freshReg}
 use Rattle.nets.specs.Net.{blockAt}
 use Rattle.blocks.specs.declared.Reg.{Reg}
 use Rattle.cycles.specs.State.{plainKind}
-use Rattle.sim.proofs.Ascends.{filled-more, filled-none}
+use Rattle.rows.proofs.Ascends.{filled-more, filled-none}
 use Rattle.sim.proofs.Results.{filled-tab}
 use Rattle.sim.proofs.step.fresh_state.Statement.{statement}
 use Rattle.sim.proofs.step.fresh_state.Tie as tie

@@ -3,7 +3,7 @@
 use mathlib.Core.Path.{_≡_, refl}
 use native.Mathlib.Omega.{arith}
 use lib.ListN.{length, length-map}
-use Rattle.sim.specs.Ends.{streamAt, maskAt}
+use Rattle.rows.specs.Ends.{streamAt, maskAt}
 use Rattle.sim.proofs.Results.{shaped-of, fitting, stepped-is}
 use Rattle.sim.proofs.Netted.{rowed, ahead-of, back-of}
 use Rattle.nets.proofs.Nets.{size-high, channels-high}

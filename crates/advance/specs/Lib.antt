@@ -1,0 +1,2 @@
+-- Working definitions: what one cycle leaves in the arrays.
+pub mod Cycled

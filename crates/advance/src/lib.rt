@@ -1,0 +1,2 @@
+// One cycle of a run on lent arrays.
+pub mod cycle;

@@ -1,2 +1,0 @@
--- A law of runs that printing needs.
-pub mod Room

@@ -1,0 +1,2 @@
+-- Laws of a trace that is read back.
+pub mod Reading

@@ -1,0 +1,2 @@
+-- What a reader must believe of netrun's run.
+pub mod Sample
