@@ -3,6 +3,7 @@
 use mathlib.Core.Path.{_≡_, refl, sym, ap, ap₂, subst, _∙_}
 use mathlib.Core.Bool.{Bool, true, false, _&&_}
 use mathlib.Core.List.{List, [], _++_, append-assoc}
+use mathlib.Core.Logic.{_⊎_, inl, inr}
 use Prim.Native.Nat.{ℕ, _+_, _-_, _*_, _≤_, _<_}
 use native.Mathlib.Omega.{arith}
 use borrow.Rule.Slice.PartMut.{midOf, putMid}
@@ -81,19 +82,24 @@ module _ (net : Net) (s : State) (words ends masks trace₀ : List ℕ) (i used 
       (answerOf 0 (record { state = ran-of i .state; ending = ending; cycles = ran-of i .cycles; records = ran-of i .records }))
   answer-with ending = λ j. record { refusal = 0; ending = ending; cycles = sym (G .done) j; records = sym (G .number) j; state = sym (G .state-is) j }
 
-  -- the answer once all cycles are done
-  pub answer-done : _≡_ {A = Run} (record { refusal = 0; ending = 0; cycles = i; records = used; state = stateIn s i ws ms }) (answerOf 0 (ran-of i))
-  answer-done = answer-with 0 ∙ ap (λ (e : ℕ). answerOf 0 (record { state = ran-of i .state; ending = e; cycles = ran-of i .cycles; records = ran-of i .records })) (sym (G .going))
+  -- the answer and the trace once all n cycles are done
+  pub answer-done : (n : ℕ) → i ≡ n → (a : Run) → a ≡ record { refusal = 0; ending = 0; cycles = i; records = used; state = stateIn s i ws ms } → a ≡ answerOf 0 (ran-of n)
+  answer-done n all a q =
+      q ∙ answer-with 0 ∙ ap (λ (e : ℕ). answerOf 0 (record { state = ran-of i .state; ending = e; cycles = ran-of i .cycles; records = ran-of i .records })) (sym (G .going))
+      ∙ ap (λ (k : ℕ). answerOf 0 (ran-of k)) all
+
+  pub trace-done : (n : ℕ) → i ≡ n → trace ≡ written (ran-of n .records) trace₀
+  trace-done n all = G .filled ∙ ap (λ (k : ℕ). written (ran-of k .records) trace₀) all
 
   module _ (n : ℕ) (low : i < n) (stopped : ran-of (i + 1) ≡ record { state = ran-of i .state; ending = 1; cycles = ran-of i .cycles; records = ran-of i .records }) where
     to-the-end : ran-of n ≡ record { state = ran-of i .state; ending = 1; cycles = ran-of i .cycles; records = ran-of i .records }
     to-the-end = ran-stays net s words ends masks (length trace₀) (i + 1) n (ap (λ (q : Ran). q .ending) stopped) (omega arith) ∙ stopped
 
     -- the answer where the run ends before cycle i
-    pub answer-stopped : _≡_ {A = Run} (record { refusal = 0; ending = 1; cycles = i; records = used; state = stateIn s i ws ms }) (answerOf 0 (ran-of n))
+    answer-stopped : _≡_ {A = Run} (record { refusal = 0; ending = 1; cycles = i; records = used; state = stateIn s i ws ms }) (answerOf 0 (ran-of n))
     answer-stopped = answer-with 1 ∙ ap (answerOf 0) (sym to-the-end)
 
-    pub trace-stopped : trace ≡ written (ran-of n .records) trace₀
+    trace-stopped : trace ≡ written (ran-of n .records) trace₀
     trace-stopped = G .filled ∙ ap (λ (q : Ran). written (q .records) trace₀) (sym to-the-end)
 
 -- records R, then L, written over a trace
@@ -119,20 +125,34 @@ written-more R L trace₀ trace out' used num room e o =
         ∙ drop-drop (8 * length L) (8 * length R) trace₀ ∙ ap (λ (k : ℕ). drop k trace₀) all
 
 -- the length of the part that is lent
-pub lent-long : (a : ℕ) (l : List ℕ) → length (midOf a (length l - a) l) ≡ length l - a
+lent-long : (a : ℕ) (l : List ℕ) → length (midOf a (length l - a) l) ≡ length l - a
 lent-long a l = ap length (tail-lent a l) ∙ length-drop a l
 
 -- nothing written
-pub lent-back : (a : ℕ) (l out' : List ℕ) → out' ≡ midOf a (length l - a) l → putMid a (length l - a) l out' ≡ l
+lent-back : (a : ℕ) (l out' : List ℕ) → out' ≡ midOf a (length l - a) l → putMid a (length l - a) l out' ≡ l
 lent-back a l out' e = tail-written a 0 l [] out' e ∙ ap (λ (k : ℕ). take a l ++ drop k l) no-more ∙ take-append-drop a l
   where
     no-more : a + 0 ≡ a
     no-more = omega arith
 
 -- the trace keeps its length
-pub trace-long : (R trace₀ : List ℕ) (used : ℕ) → length R ≡ used → 8 * used ≤ length trace₀ → length (written R trace₀) ≡ length trace₀
+trace-long : (R trace₀ : List ℕ) (used : ℕ) → length R ≡ used → 8 * used ≤ length trace₀ → length (written R trace₀) ≡ length trace₀
 trace-long R trace₀ used num room =
     omega (arith, num, room, length-append (traceOf R) (drop (8 * length R) trace₀), length-trace R, length-drop (8 * length R) trace₀)
+
+-- the same of a run that goes on
+pub going-long : (net : Net) (s : State) (words ends masks trace₀ : List ℕ) (i used : ℕ) (ws ms trace : List ℕ) → Going net s words ends masks trace₀ i used ws ms trace
+    → length trace ≡ length trace₀
+going-long net s words ends masks trace₀ i used ws ms trace G =
+    ap length (G .filled) ∙ trace-long (ranFor net s words ends masks (length trace₀) i .records) trace₀ used (G .number) (G .room)
+
+-- what a cycle leaves that answers r: where r is 129 the run of n cycles has ended before it, otherwise it is done
+pub record Turned (net : Net) (s : State) (words ends masks trace₀ : List ℕ) (n i used r : ℕ) (ws' ms' trace' : List ℕ) : Type 0 where
+  pub answered : r ≡ 129 → (a : Run) → a ≡ record { refusal = 0; ending = 1; cycles = i; records = used; state = stateIn s i ws' ms' }
+      → a ≡ answerOf 0 (ranFor net s words ends masks (length trace₀) n)
+  pub left : r ≡ 129 → trace' ≡ written (ranFor net s words ends masks (length trace₀) n .records) trace₀
+  pub long : r ≡ 129 → length trace' ≡ length trace₀
+  pub goes : (r ≡ 129 → ⊥) → Going net s words ends masks trace₀ (i + 1) (used + r) ws' ms' trace'
 
 module _ (net : Net) (plan : Plan) (p : Promises net plan) (acc : accepted net ≡ true) (rows values : List ℕ) (flat : Flat net (net .size) rows values) (s : State) (words ends masks : List ℕ)
     (fit : endsFit net words ends ≡ true) (trace₀ : List ℕ) (i used : ℕ) (ws ms trace : List ℕ) (G : Going net s words ends masks trace₀ i used ws ms trace) (low : s .count + i < 1048576)
@@ -163,27 +183,28 @@ module _ (net : Net) (plan : Plan) (p : Promises net plan) (acc : accepted net �
       ap₂ recordsIn (ap (λ (q : State). q .count) (G .state-is)) step-at
       ∙ sym (records-are net plan p acc rows values flat words ends fit S (G .shape) low offer ready valid word taken w)
 
-  pub few-new : length L ≤ 128
+  few-new : length L ≤ 128
   few-new = omega (arith, channels-high net (p .fields), records-few (s .count + i) (λ c. getD valid c false && getD taken c false) (λ c. getD word c 0) (net .channels))
 
   kept : shapeOk net (t .state) ≡ true
   unfolding stepOf
   kept = shape-kept (accepted net) net (accepted-true net acc) S words ends offer ready (G .shape)
 
-  pub same-long : length trace ≡ length trace₀
-  same-long = ap length (G .filled) ∙ trace-long (ran i .records) trace₀ used (G .number) (G .room)
+  abbrev same-long : length trace ≡ length trace₀
+  same-long = going-long net s words ends masks trace₀ i used ws ms trace G
 
   abbrev out : List ℕ
   out = midOf (8 * used) (length trace - 8 * used) trace
 
   -- the records exceed the room: the run ends before this cycle
-  pub going-ends : (r : ℕ) (ws' ms' out' : List ℕ) → NoRoom L ws ms out r ws' ms' out'
+  going-ends : (r : ℕ) (ws' ms' out' : List ℕ) → NoRoom L ws ms out r ws' ms' out'
       → ran (i + 1) ≡ record { state = ran i .state; ending = 1; cycles = ran i .cycles; records = ran i .records }
   going-ends r ws' ms' out' h =
       ran-ends net s words ends masks (length trace₀) i (G .going) (omega (arith, h .much, ap length new-is, lent-long (8 * used) trace, same-long, G .number, G .room))
 
   -- or the cycle goes
-  pub going-more : (r : ℕ) (ws' ms' out' : List ℕ) → Went (net .size) (nextNo rows values (streamAt rows words ends) (maskAt rows offer ready) (regsOf S) (sigAt valid word) (readyAt taken)) L ws ms out r ws' ms' out'
+  going-more : (r : ℕ) (ws' ms' out' : List ℕ)
+      → Went (net .size) (nextNo rows values (streamAt rows words ends) (maskAt rows offer ready) (regsOf S) (sigAt valid word) (readyAt taken)) L ws ms out r ws' ms' out'
       → Going net s words ends masks trace₀ (i + 1) (used + r) ws' ms' (putMid (8 * used) (length trace - 8 * used) trace out')
   going-more r ws' ms' out' h =
       record {
@@ -211,3 +232,33 @@ module _ (net : Net) (plan : Plan) (p : Promises net plan) (acc : accepted net �
       went =
           ap (λ (k : ℕ). record { count = k; words = ws'; marks = ms' }) one-more
           ∙ went-is net plan p acc rows values flat words ends fit S (G .shape) low offer ready valid word taken w L out r ws' ms' out' h
+
+  -- what the cycle leaves, whichever of the two it is
+  pub turned : (n : ℕ) → i < n → (r : ℕ) (ws' ms' out' : List ℕ)
+      → NoRoom L ws ms out r ws' ms' out'
+      ⊎ Went (net .size) (nextNo rows values (streamAt rows words ends) (maskAt rows offer ready) (regsOf S) (sigAt valid word) (readyAt taken)) L ws ms out r ws' ms' out'
+      → Turned net s words ends masks trace₀ n i used r ws' ms' (putMid (8 * used) (length trace - 8 * used) trace out')
+  turned n h r ws' ms' out' (inl full) =
+      record {
+        answered = λ e a q. q ∙ (λ j. record { refusal = 0; ending = 1; cycles = i; records = used; state = stateIn s i (full .words-same j) (full .marks-same j) })
+            ∙ answer-stopped net s words ends masks trace₀ i used ws ms trace G n h stopped;
+        left = λ e. back ∙ trace-stopped net s words ends masks trace₀ i used ws ms trace G n h stopped;
+        long = λ e. ap length back ∙ same-long;
+        goes = λ other. absurd (other (full .answer));
+      }
+    where
+      stopped : ran (i + 1) ≡ record { state = ran i .state; ending = 1; cycles = ran i .cycles; records = ran i .records }
+      stopped = going-ends r ws' ms' out' full
+
+      back : putMid (8 * used) (length trace - 8 * used) trace out' ≡ trace
+      back = lent-back (8 * used) trace out' (full .out-same)
+  turned n h r ws' ms' out' (inr went) =
+      record {
+        answered = λ e. absurd (not-129 e);
+        left = λ e. absurd (not-129 e);
+        long = λ e. absurd (not-129 e);
+        goes = λ other. going-more r ws' ms' out' went;
+      }
+    where
+      not-129 : r ≡ 129 → ⊥
+      not-129 e = omega (arith, e, went .answer, few-new)

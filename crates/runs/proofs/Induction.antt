@@ -3,7 +3,6 @@
 use mathlib.Core.Path.{_≡_, subst}
 use Prim.Native.Nat.{ℕ, zero, suc, _+_, _-_, _≤_}
 use native.Mathlib.Omega.{arith}
-use mathlib.Core.Logic.{_⊎_, inl, inr}
 
 module _ (P : ℕ → Type 0) (n : ℕ) (p : P n) (next : (m : ℕ) → n ≤ m → P m → P (m + 1)) where
   further : (d : ℕ) → P (n + d)
@@ -22,12 +21,3 @@ module _ (P : ℕ → Type 0) (n : ℕ) (p : P n) (next : (m : ℕ) → n ≤ m 
     where
       same : n + (m - n) ≡ m
       same = omega arith
-
--- one of two, where the other cannot be
-pub left-of : {A B : Type 0} → A ⊎ B → (B → ⊥) → A
-left-of (inl a) n = a
-left-of (inr b) n = absurd (n b)
-
-pub right-of : {A B : Type 0} → A ⊎ B → (A → ⊥) → B
-right-of (inl a) n = absurd (n a)
-right-of (inr b) n = b
