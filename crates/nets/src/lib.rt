@@ -81,7 +81,7 @@ fn refused(verdict: Verdict) -> Plan
     }
 }
 
-// The check of a net value, and what stepping needs of an accepted one.
+// The check of a net value, and what stepping needs of an accepted one: its two orders are orders, and which of several they are is not promised.
 pub fn plan_of(net: Net) -> Plan
     ensures { λ r. ⌜ Planned net r ⌝ }
 {

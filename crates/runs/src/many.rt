@@ -196,7 +196,8 @@ fn run_accepted(
     )
 }
 
-// A run whose words, ends and masks are given as bytes, 4 to a number, and then as lists: callers give one of the two and leave the other empty.
+// A run whose words, ends and masks are given as bytes, 4 to a number, and then as lists: callers give one of the two and leave the other empty. Of bytes that are not a multiple of
+// 4 the last 1 to 3 are dropped: a caller that has to refuse them tests the length first.
 pub fn run_given(
     net: Net,
     state: State,
