@@ -1,5 +1,6 @@
 #!/usr/bin/env python3
-"""Holds the pages to the tree: line counts, files, crates, edits and make targets that they name, and the rule on names. Run from anywhere; says each fault and ends 1."""
+"""Holds the pages to the tree: line counts, files, crates, edits, laws and make targets that they name, definitions that they quote, and the rule on names. Run from anywhere; says each fault and ends 1."""
+import functools
 import pathlib
 import re
 import sys
@@ -60,6 +61,19 @@ def check_targets(page, text):
             fault(f"{page}: make has no target {target}")
 
 
+def check_laws(page, text):
+    """Names in backticks with a hyphen inside are laws, and stand in some proof or definition."""
+    for name in sorted(set(re.findall(r"`([a-z][\w′]*(?:-[\w′]+)+)`", text)) - law_names()):
+        fault(f"{page}: there is no law {name}")
+
+
+def check_quotes(page, text):
+    """A block of a page that begins with `Name =` is a definition, word for word."""
+    for block in re.findall(r"^```\n(\w+ =\n.*?)^```$", text, re.M | re.S):
+        if not any(block in path.read_text() for path in CRATES.glob("*/specs/*.antt")):
+            fault(f"{page}: no definition reads as the page has {block.split()[0]}")
+
+
 def check_crates():
     """Every crate stands in the architecture's table, and every file of definitions is listed there as one to believe or not."""
     text = (ROOT / "docs" / "ARCHITECTURE.md").read_text()
@@ -76,6 +90,15 @@ def check_crates():
 NAME = r"[^\s:(){}\[\]«».,;]+"
 DECLARED = re.compile(rf"^\s*(?:(?:abbrev|unfoldable|opaque|irreducible)\s+)?(?:pub\s+)?({NAME})(?:\s*\{{[^}}]*\}})?\s+:(?:\s|$)")
 TYPE = re.compile(rf"^\s*(?:pub\s+)?(?:record|data)\s+({NAME})")
+
+
+@functools.cache
+def law_names():
+    """Every name that is declared in specifications and proofs, fields included."""
+    found = set()
+    for path in CRATES.glob("*/*/**/*.antt"):
+        found.update(match.group(1) for match in map(DECLARED.match, path.read_text().splitlines()) if match)
+    return found
 
 
 def library_names():
@@ -101,7 +124,7 @@ def check_names():
 def main():
     for path in PAGES:
         page, text = path.relative_to(ROOT), path.read_text()
-        for check in (check_counts, check_files, check_edits, check_targets):
+        for check in (check_counts, check_files, check_edits, check_targets, check_laws, check_quotes):
             check(page, text)
     check_crates()
     check_names()

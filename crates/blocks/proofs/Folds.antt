@@ -1,4 +1,4 @@
--- Laws of Booleans, of `allBelow` and of `countBelow`.
+-- Laws of Booleans, of few indices, of `allBelow` and of `countBelow`.
 -- Assumes nothing.
 use mathlib.Core.Path.{_≡_, refl, sym, _∙_, ap, subst}
 use mathlib.Core.Bool.{Bool, true, false, cond, _&&_, _||_}
@@ -60,6 +60,16 @@ or-other false b p q = p
 
 pub or-left : (a b : Bool) → a ≡ true → (a || b) ≡ true
 or-left a b p = rw p
+
+-- one index, and two
+pub only : (P : ℕ → Type 0) → P 0 → (j : ℕ) → j < 1 → P j
+only P h zero q = h
+only P h (suc j) q = absurd (omega arith)
+
+pub pair : (P : ℕ → Type 0) → P 0 → P 1 → (j : ℕ) → j < 2 → P j
+pair P h h′ zero q = h
+pair P h h′ (suc zero) q = h′
+pair P h h′ (suc (suc j)) q = absurd (omega arith)
 
 module _ (f : ℕ → Bool) where
   pub all-none : allBelow f 0 ≡ true

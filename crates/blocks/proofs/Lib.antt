@@ -9,4 +9,6 @@ pub mod Local
 pub mod Turns
 pub mod Shapes
 pub mod Numbers
+pub mod Stays
+pub mod Emptied
 pub mod Trials

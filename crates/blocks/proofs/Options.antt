@@ -25,10 +25,6 @@ test false yes-case no-case = no-case refl
 abbrev pub Below : {A : Type 0} → Option A → Option A → Type 0
 Below {A} o p = (a : A) → o ≡ some a → p ≡ some a
 
-pub then-below : {A B : Type 0} (o p : Option A) (f g : A → Option B) → Below o p → ((a : A) → o ≡ some a → Below (f a) (g a)) → Below (o then f) (p then g)
-then-below none p f g h k b e = none-some e
-then-below (some a) p f g h k b e = rw (h a refl) (k a refl b e)
-
 pub then-there : {A B : Type 0} (o : Option A) (f : A → Option B) (b : B) → (o then f) ≡ some b → (a : A) × (o ≡ some a) × (f a ≡ some b)
 then-there none f b e = none-some e
 then-there (some a) f b e = (a, refl, e)

@@ -1,48 +1,70 @@
--- Laws of a block's firing: more words waiting change nothing of what it does, and it takes only words that wait.
+-- Laws of a block's firing: it needs only the words that it takes, so more words waiting change nothing of what it does; and it takes only words that wait.
 -- Assumes nothing.
 use Prim.Native.Nat.{ℕ, zero, suc, _<_}
 use mathlib.Core.Path.{_≡_, refl, sym, ap, _∙_}
 use mathlib.Core.Logic.{_⊎_, inl, inr}
 use mathlib.Core.Option.{Option, some, Option·some-injective}
 use native.Mathlib.Omega.{arith}
-use borrow.Author.Tests.{eqb-true}
+use borrow.Author.Tests.{eqb-true, eq-eqb}
 use lib.Dec.{eqb}
 use Rattle.blocks.specs.Kinds.{Kind, source, sink, operator, constant, fork, mux, demux, merge, buffer, control, unused}
 use Rattle.blocks.specs.Ports.{nIn}
-use Rattle.blocks.specs.Words.{reach}
-use Rattle.blocks.specs.Firing.{Turn, choose, turn}
-use Rattle.blocks.proofs.Options.{none-some, test, Below, then-below, then-there, reach-below}
+use Rattle.blocks.specs.Words.{operate, reach}
+use Rattle.blocks.specs.Firing.{_then_, Turn, each, swallow, choose, turn}
+use Rattle.blocks.proofs.Options.{none-some, test, Below, then-there, reach-below}
+
+same-turn : (t u : Turn) → some t ≡ some u → (i : ℕ) → u .takes i ≡ t .takes i
+same-turn t u e i = ap (λ (x : Turn). x .takes i) (sym (Option·some-injective t u e))
+
+-- ## A firing needs only the words that it takes
+
+-- what waits at the inputs from which firing u takes a word, waits there in g too
+abbrev pub Feeds : Kind → Turn → (ℕ → Option ℕ) → (ℕ → Option ℕ) → Type 0
+Feeds K u f g = (i : ℕ) → i < nIn K → u .takes i ≡ 1 → Below (f i) (g i)
+
+-- a firing with one input
+needs-one : (f g : ℕ → Option ℕ) (T : ℕ → Turn) (u : Turn) → ((a : ℕ) → T a .takes 0 ≡ 1) → (f 0 then λ a. some (T a)) ≡ some u
+    → (u .takes 0 ≡ 1 → Below (f 0) (g 0)) → (g 0 then λ a. some (T a)) ≡ some u
+needs-one f g T u single e h =
+    let a = then-there (f 0) (λ a. some (T a)) u e in
+    rw (h (same-turn (T (a .0)) u (a .2) 0 ∙ single (a .0)) (a .0) (a .1)) (a .2)
+
+pub turn-needs : (K : Kind) (k : ℕ) (f g : ℕ → Option ℕ) (u : Turn) → turn K k f ≡ some u → Feeds K u f g → turn K k g ≡ some u
+turn-needs (source xs) k f g u e h = e
+turn-needs sink k f g u e h = needs-one f g (λ a. swallow) u (λ a. refl) e (h 0 (omega arith))
+turn-needs (operator o) k f g u e h =
+    let a = then-there (f 0) _ u e in
+    let b = then-there (f 1) _ u (a .2) in
+    rw (h 0 (omega arith) (same-turn _ u (b .2) 0) (a .0) (a .1), h 1 (omega arith) (same-turn _ u (b .2) 1) (b .0) (b .1)) (b .2)
+turn-needs (constant o v) k f g u e h = needs-one f g (λ a. each (operate o a v)) u (λ a. refl) e (h 0 (omega arith))
+turn-needs (fork m) k f g u e h = needs-one f g each u (λ a. refl) e (h 0 (omega arith))
+turn-needs (mux m) k f g u e h =
+    let s = then-there (f 0) _ u e in
+    let t = then-there (reach m (s .0)) _ u (s .2) in
+    let a = then-there (f (suc (t .0))) _ u (t .2) in
+    let picked : u .takes (suc (t .0)) ≡ 1 = same-turn (choose (t .0) (a .0)) u (a .2) (suc (t .0)) ∙ rw (eq-eqb (t .0) (t .0) refl) in
+    rw (h 0 (omega arith) (same-turn _ u (a .2) 0) (s .0) (s .1), t .1, h (suc (t .0)) (omega (arith, reach-below m (s .0) (t .0) (t .1))) picked (a .0) (a .1)) (a .2)
+turn-needs (demux m) k f g u e h =
+    let s = then-there (f 0) _ u e in
+    let t = then-there (reach m (s .0)) _ u (s .2) in
+    let a = then-there (f 1) _ u (t .2) in
+    rw (h 0 (omega arith) (same-turn _ u (a .2) 0) (s .0) (s .1), t .1, h 1 (omega arith) (same-turn _ u (a .2) 1) (a .0) (a .1)) (a .2)
+turn-needs (merge m) k f g u e h = e
+turn-needs (buffer o) k f g u e h = needs-one f g each u (λ a. refl) e (h 0 (omega arith))
+turn-needs control k f g u e h = needs-one f g each u (λ a. refl) e (h 0 (omega arith))
+turn-needs unused k f g u e h = e
 
 -- A firing sees only what its inputs hold: with more words behind them, it does the same.
 abbrev pub Sees : Kind → (ℕ → Option ℕ) → (ℕ → Option ℕ) → Type 0
 Sees K f g = (i : ℕ) → i < nIn K → Below (f i) (g i)
 
-abbrev kept : {o : Option Turn} → Below o o
-kept t e = e
-
 pub turn-below : (K : Kind) (k : ℕ) (f g : ℕ → Option ℕ) → Sees K f g → Below (turn K k f) (turn K k g)
-turn-below (source xs) k f g h = λ t e. e
-turn-below sink k f g h = then-below (f 0) (g 0) _ _ (h 0 (omega arith)) (λ a e. kept)
-turn-below (operator o) k f g h = then-below (f 0) (g 0) _ _ (h 0 (omega arith)) (λ a e. then-below (f 1) (g 1) _ _ (h 1 (omega arith)) (λ b e′. kept))
-turn-below (constant o v) k f g h = then-below (f 0) (g 0) _ _ (h 0 (omega arith)) (λ a e. kept)
-turn-below (fork m) k f g h = then-below (f 0) (g 0) _ _ (h 0 (omega arith)) (λ a e. kept)
-turn-below (mux m) k f g h =
-    then-below (f 0) (g 0) _ _ (h 0 (omega arith)) (λ s e. then-below (reach m s) (reach m s) _ _ (λ t z. z) (λ t z.
-    then-below (f (suc t)) (g (suc t)) _ _ (h (suc t) (omega (arith, reach-below m s t z))) (λ a e′. kept)))
-turn-below (demux m) k f g h =
-    then-below (f 0) (g 0) _ _ (h 0 (omega arith)) (λ s e. then-below (reach m s) (reach m s) _ _ (λ t z. z) (λ t z. then-below (f 1) (g 1) _ _ (h 1 (omega arith)) (λ a e′. kept)))
-turn-below (merge m) k f g h = λ t e. e
-turn-below (buffer o) k f g h = then-below (f 0) (g 0) _ _ (h 0 (omega arith)) (λ a e. kept)
-turn-below control k f g h = then-below (f 0) (g 0) _ _ (h 0 (omega arith)) (λ a e. kept)
-turn-below unused k f g h = λ t e. e
+turn-below K k f g h u e = turn-needs K k f g u e (λ i l q. h i l)
 
 -- ## A firing takes no more than one word from an input, and only a word that waits
 
 abbrev pub Takes : Turn → (ℕ → Option ℕ) → ℕ → Type 0
 Takes t f i = (t .takes i ≡ 0) ⊎ ((t .takes i ≡ 1) × ((w : ℕ) × (f i ≡ some w)))
-
-same-turn : (t u : Turn) → some t ≡ some u → (i : ℕ) → u .takes i ≡ t .takes i
-same-turn t u e i = ap (λ (x : Turn). x .takes i) (sym (Option·some-injective t u e))
 
 -- a firing that takes one word from each of its inputs
 one-input : (f : ℕ → Option ℕ) (t u : Turn) (a : ℕ) → some t ≡ some u → t .takes 0 ≡ 1 → f 0 ≡ some a → (i : ℕ) → i < 1 → Takes u f i

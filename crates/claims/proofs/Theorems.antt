@@ -25,7 +25,8 @@ use Rattle.cycles.proofs.States.{fresh-shape}
 use Rattle.cycles.proofs.Steps.{step-refused, step-worked, count-rises as cycle-count, shape-kept as cycle-shape}
 use Rattle.queue.specs.Machine.{put}
 use Rattle.queue.specs.Delivered.{Input, marked, over, deliveredFrom, lastFrom, delivered}
-use Rattle.queue.specs.Claims.{Comparable, holds}
+use Rattle.queue.specs.History.{holds}
+use Rattle.queue.specs.Claims.{Comparable}
 use Rattle.queue.proofs.Guarantee.{guaranteed as machine-guaranteed, comparable as machine-comparable, same-words as machine-same-words, buffer-law as machine-buffer-law}
 use Rattle.sim.specs.Calls.{freshOf, stepOf}
 use Rattle.claims.specs.Promised.{
@@ -48,12 +49,12 @@ use Rattle.claims.specs.Promised.{
 -- ## Lists of steps
 
 module _ (net : Net) where
-  same-from : (s : State) (ns : List Input) (c : ℕ) → deliveredFrom (accepted net) net s ns c ≡ wordsFrom net s ns c
+  pub same-from : (s : State) (ns : List Input) (c : ℕ) → deliveredFrom (accepted net) net s ns c ≡ wordsFrom net s ns c
   unfolding stepOf
   same-from s [] c = refl
   same-from s (n ∷ ns) c = ap (λ (l : List ℕ). marked (stepIn net s n) c ++ l) (same-from (stepIn net s n .state) ns c)
 
-  same-last : (s : State) (ns : List Input) → lastFrom (accepted net) net s ns ≡ stateFrom net s ns
+  pub same-last : (s : State) (ns : List Input) → lastFrom (accepted net) net s ns ≡ stateFrom net s ns
   unfolding stepOf
   same-last s [] = refl
   same-last s (n ∷ ns) = same-last (stepIn net s n .state) ns
@@ -129,7 +130,7 @@ module _ (net : Net) (s : State) (words ends : List ℕ) (offer ready : ℕ) whe
   refusal = refusalBy (accepted net) net s words ends false 1
 
   -- the refusal that a step returns
-  refusal-is : refusal ≡ stepOf net s words ends offer ready .refusal
+  pub refusal-is : refusal ≡ stepOf net s words ends offer ready .refusal
   unfolding stepOf
   refusal-is =
       test (eqb refusal 0)

@@ -18,7 +18,8 @@ use Rattle.cycles.specs.declared.State.{State}
 use Rattle.cycles.specs.declared.Stepped.{Stepped}
 use Rattle.queue.specs.Machine.{put}
 use Rattle.queue.specs.Delivered.{Input, marked, over}
-use Rattle.queue.specs.Claims.{MergeFree, Comparable, anyBuffer, holds}
+use Rattle.queue.specs.History.{holds}
+use Rattle.queue.specs.Claims.{MergeFree, Comparable, anyBuffer}
 use Rattle.sim.specs.Calls.{freshOf, stepOf}
 
 -- ## A list of steps

@@ -6,4 +6,6 @@ pub mod Stepping
 pub mod Solution
 pub mod States
 pub mod Steps
+pub mod Sustained
+pub mod Emptying
 pub mod Pins

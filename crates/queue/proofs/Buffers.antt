@@ -35,7 +35,8 @@ use Rattle.cycles.proofs.Solution.{solves}
 use Rattle.cycles.proofs.States.{regs-of}
 use Rattle.cycles.proofs.Steps.{step-cases}
 use Rattle.queue.specs.Delivered.{Input, stepOn, marked, deliveredFrom, lastFrom}
-use Rattle.queue.specs.Claims.{IsAccepted, anyBuffer, holds}
+use Rattle.queue.specs.History.{holds}
+use Rattle.queue.specs.Claims.{IsAccepted, anyBuffer}
 use Rattle.queue.proofs.Cycle.{PortSignals, came, gone, Works, keeps}
 use Rattle.queue.proofs.Circuit.{portsAt, cycles}
 use Rattle.queue.proofs.Marks.{marked-refused, marked-worked}

@@ -22,10 +22,11 @@ use Rattle.blocks.specs.Equations.{went, doneAt, allDone, outOf, readyOf, nextO
 use Rattle.blocks.specs.Firing.{Turn, turn, each, swallow, picks, choose, send}
 use Rattle.blocks.specs.declared.Sig.{Sig}
 use Rattle.blocks.specs.declared.Reg.{Reg}
-use Rattle.blocks.proofs.Folds.{all-at}
+use Rattle.blocks.proofs.Folds.{only, pair, all-at}
 use Rattle.blocks.proofs.Bits.{bit-bits}
 use Rattle.blocks.proofs.Options.{test, named-true, chosen-valid, reach-below}
 use Rattle.blocks.proofs.Local.{waits}
+use Rattle.queue.specs.History.{early}
 use Rattle.queue.proofs.Words.{look-below}
 
 -- What the ports of a block show in one cycle, and whether they are ready.
@@ -74,20 +75,6 @@ held (merge m) r = 0
 held (buffer o) r = one (full r)
 held control r = one (full r)
 held unused r = 0
-
--- A word that the block has given and not yet taken: 1 for a copy of a fork that has gone.
-abbrev pub early : Kind → Reg → ℕ → ℕ
-early (source xs) r j = 0
-early sink r j = 0
-early (operator o) r j = 0
-early (constant o v) r j = 0
-early (fork m) r j = one (bit j (r .marks))
-early (mux m) r j = 0
-early (demux m) r j = 0
-early (merge m) r j = 0
-early (buffer o) r j = 0
-early control r j = 0
-early unused r j = 0
 
 -- A source's word register is its number of turns.
 abbrev pub Placed : Kind → Reg → ℕ → Type 0
@@ -141,15 +128,6 @@ and2 a b e = and-eq-true-iff a b .0 e
 
 and3 : (a b c : Bool) → (a && (b && c)) ≡ true → (a ≡ true) × (b ≡ true) × (c ≡ true)
 and3 a b c e = let h = and2 a (b && c) e in let g = and2 b c (h .1) in (h .0, g .0, g .1)
-
-only : (P : ℕ → Type 0) → P 0 → (j : ℕ) → j < 1 → P j
-only P h zero q = h
-only P h (suc j) q = absurd (omega arith)
-
-pair : (P : ℕ → Type 0) → P 0 → P 1 → (j : ℕ) → j < 2 → P j
-pair P h h′ zero q = h
-pair P h h′ (suc zero) q = h′
-pair P h h′ (suc (suc j)) q = absurd (omega arith)
 
 -- A port that shows a word under a test, and is valid.
 shows : (a : Sig) (t : Bool) (w : ℕ) → a ≡ shown t w → a .valid ≡ true → (t ≡ true) × (a .word ≡ w)

@@ -14,7 +14,8 @@ use Rattle.cycles.specs.Wires.{View}
 use Rattle.cycles.proofs.Wiring.{Wired}
 use Rattle.queue.specs.Machine.{start}
 use Rattle.queue.proofs.Sound.{start-sound}
-use Rattle.queue.proofs.Cycle.{no-bits, held, early, Placed}
+use Rattle.queue.specs.History.{early}
+use Rattle.queue.proofs.Cycle.{no-bits, held, Placed}
 use Rattle.queue.proofs.Simulation.{Follow, Sim}
 
 fresh-outs : (K : Kind) (j : ℕ) → 0 + held K (freshReg K) ≡ length (first K) + early K (freshReg K) j

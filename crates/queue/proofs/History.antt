@@ -1,46 +1,20 @@
--- The history of one block, of any kind: how many words of each input it has taken, and which words it has put on each output, after `k` firings over given
--- input lists. Longer input lists change nothing of what is past.
+-- Laws of a block's history: longer input lists change nothing of what is past, nor do shorter ones that still have every word taken.
 -- Assumes nothing.
 use Prim.Native.Nat.{ℕ, zero, suc, _+_, _-_, _≤_, _<_}
 use mathlib.Core.Path.{_≡_, refl, sym, ap, _∙_, subst}
 use mathlib.Core.List.{List, [], _++_, IsPrefix}
-use mathlib.Core.Option.{Option, none, some}
+use mathlib.Core.Option.{Option, some}
 use native.Mathlib.Nat.{add-zero, add-suc}
 use native.Mathlib.Omega.{arith}
 use borrow.Author.Count.{below-more}
-use lib.ListN.{getElem?}
+use lib.ListN.{length}
 use Rattle.blocks.specs.Kinds.{Kind}
 use Rattle.blocks.specs.Ports.{nIn}
-use Rattle.blocks.specs.Firing.{Turn, turn, first}
+use Rattle.blocks.specs.Firing.{Turn}
 use Rattle.blocks.proofs.Options.{Below}
-use Rattle.blocks.proofs.Turns.{turn-below}
-use Rattle.queue.proofs.Words.{prefix-refl, prefix-more, prefix-trans, look-prefix}
-
-abbrev pub takesOf : Option Turn → ℕ → ℕ
-takesOf none i = 0
-takesOf (some t) i = t .takes i
-
-abbrev pub givesOf : Option Turn → ℕ → List ℕ
-givesOf none j = []
-givesOf (some t) j = t .gives j
-
--- The words at the front of the inputs, where `p` words of each have been taken.
-abbrev pub front : (ℕ → List ℕ) → (ℕ → ℕ) → ℕ → Option ℕ
-front ins p i = getElem? (ins i) (p i)
-
--- How many words of input `i` are taken after `k` firings.
-abbrev pub pos : Kind → (ℕ → List ℕ) → ℕ → ℕ → ℕ
-pos K ins zero i = 0
-pos K ins (suc k) i = pos K ins k i + takesOf (turn K k (front ins (pos K ins k))) i
-
--- Firing number `k`, over the input lists.
-abbrev pub turnAt : Kind → (ℕ → List ℕ) → ℕ → Option Turn
-turnAt K ins k = turn K k (front ins (pos K ins k))
-
--- Which words stand on output `j` after `k` firings.
-abbrev pub got : Kind → (ℕ → List ℕ) → ℕ → ℕ → List ℕ
-got K ins zero j = first K
-got K ins (suc k) j = got K ins k j ++ givesOf (turnAt K ins k) j
+use Rattle.blocks.proofs.Turns.{turn-needs, turn-below}
+use Rattle.queue.specs.History.{takesOf, givesOf, front, pos, turnAt, got}
+use Rattle.queue.proofs.Words.{prefix-refl, prefix-more, prefix-trans, look-prefix, look-short}
 
 -- Firing number `k` can be done.
 abbrev pub Can : Kind → (ℕ → List ℕ) → ℕ → Type 0
@@ -63,19 +37,35 @@ module _ (K : Kind) (ins more : ℕ → List ℕ) (longer : Longer K ins more) w
   pub turn-same : (k : ℕ) → Same K ins more k → Below (turnAt K ins k) (turnAt K more k)
   turn-same k s = turn-below K k _ _ (λ i h w e. rw (s .pos-same i h) (look-prefix (ins i) (more i) (longer i h) (pos K ins k i) w e))
 
-  pub same : (k : ℕ) → ((q : ℕ) → q < k → Can K ins q) → Same K ins more k
-  same zero can = record { pos-same = λ i h. refl; got-same = λ j. refl }
-  same (suc k) can =
-      let s : Same K ins more k = same k (λ q h. can q (omega arith)) in
-      let c : Can K ins k = can k (omega arith) in
-      let e : turnAt K more k ≡ turnAt K ins k = turn-same k s (c .0) (c .1) ∙ sym (c .1) in
+  same-suc : (k : ℕ) → Same K ins more k → turnAt K more k ≡ turnAt K ins k → Same K ins more (suc k)
+  same-suc k s e =
       record {
         pos-same = λ i h. ap (λ (o : Option Turn). pos K more k i + takesOf o i) e ∙ ap (λ (n : ℕ). n + takesOf (turnAt K ins k) i) (s .pos-same i h);
         got-same = λ j. ap (λ (o : Option Turn). got K more k j ++ givesOf o j) e ∙ ap (λ (l : List ℕ). l ++ givesOf (turnAt K ins k) j) (s .got-same j);
       }
 
+  pub same : (k : ℕ) → ((q : ℕ) → q < k → Can K ins q) → Same K ins more k
+  same zero can = record { pos-same = λ i h. refl; got-same = λ j. refl }
+  same (suc k) can =
+      let s : Same K ins more k = same k (λ q h. can q (omega arith)) in
+      let c : Can K ins k = can k (omega arith) in
+      same-suc k s (turn-same k s (c .0) (c .1) ∙ sym (c .1))
+
   pub can-longer : (k : ℕ) → ((q : ℕ) → q < k → Can K ins q) → Can K ins k → Can K more k
   can-longer k can c = (c .0, turn-same k (same k can) (c .0) (c .1))
+
+  -- Where the shorter lists have every word that a firing over the longer ones takes, it is done the same over them.
+  turn-short : (k : ℕ) → Same K ins more k → (t : Turn) → turnAt K more k ≡ some t → ((i : ℕ) → i < nIn K → pos K more k i + t .takes i ≤ length (ins i)) → turnAt K ins k ≡ some t
+  turn-short k s t e room =
+      turn-needs K k (front more (pos K more k)) (front ins (pos K ins k)) t e
+      (λ i h one-taken w z. rw (← (s .pos-same i h)) (look-short (ins i) (more i) (longer i h) (pos K more k i) (omega (arith, room i h, one-taken)) w z))
+
+  pub same-short : (k : ℕ) → ((q : ℕ) → q < k → Can K more q) → ((i : ℕ) → i < nIn K → pos K more k i ≤ length (ins i)) → Same K ins more k
+  same-short zero can room = record { pos-same = λ i h. refl; got-same = λ j. refl }
+  same-short (suc k) can room =
+      let s : Same K ins more k = same-short k (λ q h. can q (omega arith)) (λ i h. omega (arith, room i h)) in
+      let c : Can K more k = can k (omega arith) in
+      same-suc k s (c .1 ∙ sym (turn-short k s (c .0) (c .1) (λ i h. subst (λ (o : Option Turn). pos K more k i + takesOf o i ≤ length (ins i)) (c .1) (room i h))))
 
 -- What stands on an output only grows.
 got-adds : (K : Kind) (ins : ℕ → List ℕ) (j k n : ℕ) → IsPrefix (got K ins k j) (got K ins (k + n) j)

@@ -20,10 +20,12 @@ use Rattle.cycles.specs.Wires.{View}
 use Rattle.cycles.specs.Cycle.{Signals}
 use Rattle.cycles.proofs.Wiring.{Wired}
 use Rattle.queue.specs.Machine.{Queues, fire, run}
+use Rattle.queue.specs.Delivered.{offered}
+use Rattle.queue.specs.History.{takesOf, givesOf, front, pos, turnAt, got, early}
 use Rattle.queue.proofs.Words.{prefix-trans, prefix-grow, look-prefix, look-at}
-use Rattle.queue.proofs.History.{takesOf, givesOf, front, pos, turnAt, got, Same, same, turn-same, got-grows}
+use Rattle.queue.proofs.History.{Same, same, turn-same, got-grows}
 use Rattle.queue.proofs.Sound.{insOf, Sound, AllSound, Later, moved-on, fire-later, run-later, fire-sound, run-sound, fire-pushes, run-pushes}
-use Rattle.queue.proofs.Cycle.{isMerge, held, early, Placed, Shown, Given, Stay, Move, offer, close}
+use Rattle.queue.proofs.Cycle.{isMerge, held, Placed, Shown, Given, Stay, Move, offer, close}
 use Rattle.queue.proofs.Circuit.{portsAt, Cycles, deliver}
 
 length-deliver : (l : List ℕ) (t : Bool) (w : ℕ) → length (l ++ cond t (w ∷ []) []) ≡ length l + one t
@@ -69,6 +71,22 @@ order-inside n w (next h before ord) b (List·Memᴰ·head e) = rw e h
 order-inside n w (next h before ord) b (List·Memᴰ·tail m) = order-inside n w ord b m
 
 module _ (n : View) (w : Wired n) where
+  -- Only the words of the net's channels count.
+  pub sim-same : (D E : ℕ → List ℕ) (r : ℕ → Reg) (s : Queues) → ((c : ℕ) → c < n .channels → E c ≡ D c) → Sim n D r s → Sim n E r s
+  sim-same D E r s e x =
+      record {
+        sound = x .sound;
+        begins = λ c q. rw (e c q) (x .begins c q);
+        follow = λ b h. let y : Follow n s D (r b) b = x .follow b h in record {
+          done = y .done;
+          behind = y .behind;
+          ins-at = λ i q. rw (e (n .inp b i) (w .inp-range b i h q)) (y .ins-at i q);
+          outs-at = λ j q. rw (e (n .out b j) (w .out-range b j h q)) (y .outs-at j q);
+          held-at = λ j q k. rw (e (n .out b j) (w .out-range b j h q)) (y .held-at j q k);
+          placed = y .placed;
+        };
+      }
+
   -- The past is the same in a later state.
   same-later : (s s′ : Queues) (b k : ℕ) → Later s s′ → Sound n s b → k ≤ s .fired b → Same (n .kind b) (insOf n s b) (insOf n s′ b) k
   same-later s s′ b k l h q = same (n .kind b) (insOf n s b) (insOf n s′ b) (λ i hi. l .puts-grow (n .inp b i)) k (λ p x. h .can p (omega arith))
@@ -93,7 +111,7 @@ module _ (n : View) (w : Wired n) where
       record { sound = h; begins = λ c q. prefix-trans (D c) (s .puts c) (s′ .puts c) (x .begins c q) (l .puts-grow c); follow = λ b q. follow-later s s′ D (r b) b l (x .sound b q) (x .follow b q) }
 
   -- What `k` firings put on an output stands there, where the block has fired at least `k` times.
-  puts-at : (s : Queues) (b : ℕ) → Sound n s b → (k j : ℕ) → j < nOut (n .kind b) → k ≤ s .fired b → IsPrefix (got (n .kind b) (insOf n s b) k j) (s .puts (n .out b j))
+  pub puts-at : (s : Queues) (b : ℕ) → Sound n s b → (k j : ℕ) → j < nOut (n .kind b) → k ≤ s .fired b → IsPrefix (got (n .kind b) (insOf n s b) k j) (s .puts (n .out b j))
   puts-at s b h k j q l = rw (h .made j q) (got-grows (n .kind b) (insOf n s b) j k (s .fired b) l)
 
   -- Where the words of the valid inputs stand in their queues, the front of the block's history shows them.
@@ -218,6 +236,15 @@ module _ (n : View) (w : Wired n) where
 
     -- A cycle is two passes: after the first all its valid words stand in their queues; in the second every block does the firing that belongs to the cycle.
     module _ (order : List ℕ) (ordered : Order n w [] order) (whole : (b : ℕ) → b < n .blocks → List·Memᴰ b order) where
+      -- after the first, what is delivered and then what is valid begins what is put
+      ahead-of : (s : Queues) → Sim n D r s → (c : ℕ) → c < n .channels → Ahead (run n order s) D g c
+      ahead-of s x c q = pass ordered s x (λ c q m. elim m [ ]) c q (inr (whole (w .producer c) (w .leaves c q .0)))
+
+      pub sim-offers : (s : Queues) → Sim n D r s → (c : ℕ) → c < n .channels → IsPrefix (D c ++ offered g c) (run n order s .puts c)
+      sim-offers s x c q =
+          grown (g .shows c .valid) (D c) (run n order s .puts c) (g .shows c .word) (ahead-of s x c q)
+          (prefix-trans (D c) (s .puts c) (run n order s .puts c) (x .begins c q) (run-later n order s .puts-grow c))
+
       pub sim-cycle : (s : Queues) → Sim n D r s → Sim n (deliver g D) r′ (run n order (run n order s))
       sim-cycle s x = record {
         sound = sound2;
@@ -241,7 +268,7 @@ module _ (n : View) (w : Wired n) where
           sound2 = run-sound n w order s1 sound1
 
           ahead1 : (c : ℕ) → c < n .channels → Ahead s1 D g c
-          ahead1 c q = pass ordered s x (λ c q m. elim m [ ]) c q (inr (whole (w .producer c) (w .leaves c q .0)))
+          ahead1 = ahead-of s x
 
           later2 : Later s1 s2
           later2 = run-later n order s1

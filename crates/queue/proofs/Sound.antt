@@ -17,11 +17,12 @@ use Rattle.blocks.proofs.Turns.{turn-below}
 use Rattle.cycles.specs.Wires.{View}
 use Rattle.cycles.proofs.Wiring.{Wired}
 use Rattle.queue.specs.Machine.{Queues, change, waiting, turnOf, perform, after, fire, run, start}
+use Rattle.queue.specs.History.{front, pos, turnAt, got}
 use Rattle.queue.proofs.Words.{prefix-refl, prefix-trans, if-there}
 use Rattle.queue.proofs.Apart.{outputs-apart, inputs-apart}
 use Rattle.queue.proofs.Walk.{walk-grows}
 use Rattle.queue.proofs.Effects.{put-here, put-elsewhere, take-here, take-elsewhere, puts-start}
-use Rattle.queue.proofs.History.{front, pos, turnAt, got, Can, Same, turn-same, same, can-longer, can-suc}
+use Rattle.queue.proofs.History.{Can, Same, turn-same, same, can-longer, can-suc}
 
 -- The lists on the inputs of block `b`.
 abbrev pub insOf : View → Queues → ℕ → ℕ → List ℕ

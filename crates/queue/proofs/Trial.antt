@@ -23,7 +23,8 @@ use Rattle.cycles.specs.State.{tab, shapeOk, regsOf}
 use Rattle.cycles.specs.Step.{refusalBy, stepBy, freshBy}
 use Rattle.queue.specs.Machine.{fire, put}
 use Rattle.queue.specs.Delivered.{Input, deliveredFrom, lastFrom, delivered}
-use Rattle.queue.specs.Claims.{IsAccepted, MergeFree, holds}
+use Rattle.queue.specs.History.{holds}
+use Rattle.queue.specs.Claims.{IsAccepted, MergeFree}
 use Rattle.queue.proofs.Guarantee.{guaranteed}
 
 -- a computed test for nets without merges
@@ -61,10 +62,10 @@ line-puts = (refl, refl)
 
 -- ## A counter: a fork to a sink and to add 1, then a control buffer and a data buffer that starts with 0, back to the fork
 
-abbrev block : ℕ → ℕ → ℕ → ℕ → ℕ → ℕ → Block
+abbrev pub block : ℕ → ℕ → ℕ → ℕ → ℕ → ℕ → Block
 block kind m value a b c = record { kind = kind; m = m; value = value; ports = a ∷ b ∷ c ∷ replicate 7 0 }
 
-abbrev counter : Net
+abbrev pub counter : Net
 counter =
     record {
       size = 5;
@@ -86,7 +87,7 @@ pub counter-guaranteed : (masks : List (ℕ × ℕ))
 counter-guaranteed = guaranteed true counter [] [] counter-accepted counter-free
 
 -- its sink is ready, stalls, is ready over ends that earn 14, and is ready again
-abbrev counterSteps : List Input
+abbrev pub counterSteps : List Input
 counterSteps =
     let give : List ℕ → ℕ → Input = λ ends ready. record { words = []; ends = ends; offer = 0; ready = ready } in
     give [] 1 ∷ give [] 0 ∷ give (0 ∷ []) 1 ∷ give [] 1 ∷ give [] 1 ∷ []

@@ -1,15 +1,17 @@
 -- Lists of words: the word at an index, if there is one, and one list as the beginning of another (`IsPrefix xs ys` of the library is a list zs with
 -- xs ++ zs ≡ ys).
 -- Assumes nothing.
-use Prim.Native.Nat.{ℕ, zero, suc, _<_}
+use Prim.Native.Nat.{ℕ, zero, suc, _≤_, _<_}
 use mathlib.Core.Path.{_≡_, refl, sym, ap, _∙_}
 use mathlib.Core.Bool.{Bool, true, false, cond}
-use mathlib.Core.Logic.{_⊎_, inl, inr, ⊎-elim}
+use mathlib.Core.Logic.{_⊎_, inl, inr}
 use mathlib.Core.List.{List, [], _∷_, _++_, append-nil, append-assoc, cons-ne-nil, IsPrefix}
 use mathlib.Core.Option.{Option, none, some}
 use native.Mathlib.Omega.{arith}
+use borrow.Author.Tests.{ltb-true, ltb-false}
+use lib.Dec.{ltb}
 use lib.ListN.{length, getElem?, getD}
-use Rattle.blocks.proofs.Options.{none-some, Below}
+use Rattle.blocks.proofs.Options.{none-some, test, Below}
 
 pub prefix-refl : (xs : List ℕ) → IsPrefix xs xs
 prefix-refl xs = ([], append-nil xs)
@@ -20,16 +22,21 @@ prefix-more xs ys = (ys, refl)
 pub prefix-trans : (xs ys zs : List ℕ) → IsPrefix xs ys → IsPrefix ys zs → IsPrefix xs zs
 prefix-trans xs ys zs p q = (p .0 ++ q .0, sym (append-assoc xs (p .0) (q .0)) ∙ ap (λ (l : List ℕ). l ++ q .0) (p .1) ∙ q .1)
 
--- Of two beginnings of one list, one begins the other.
+-- Of two beginnings of one list the shorter begins the longer.
+pub prefix-shorter : (xs ys zs : List ℕ) → IsPrefix xs zs → IsPrefix ys zs → length xs ≤ length ys → IsPrefix xs ys
+prefix-shorter [] ys zs p q h = (ys, refl)
+prefix-shorter (x ∷ xs) [] zs p q h = absurd (omega arith)
+prefix-shorter (x ∷ xs) (y ∷ ys) [] p q h = absurd (cons-ne-nil x (xs ++ p .0) (p .1))
+prefix-shorter (x ∷ xs) (y ∷ ys) (z ∷ zs) p q h =
+    let r = prefix-shorter xs ys zs (p .0, cc (p .1)) (q .0, cc (q .1)) (omega arith) in
+    (r .0, cc (p .1, q .1, r .1))
+
+-- So of two beginnings of one list one begins the other.
 pub prefix-compare : (xs ys zs : List ℕ) → IsPrefix xs zs → IsPrefix ys zs → IsPrefix xs ys ⊎ IsPrefix ys xs
-prefix-compare [] ys zs p q = inl (ys, refl)
-prefix-compare (x ∷ xs) [] zs p q = inr (x ∷ xs, refl)
-prefix-compare (x ∷ xs) (y ∷ ys) [] p q = absurd (cons-ne-nil x (xs ++ p .0) (p .1))
-prefix-compare (x ∷ xs) (y ∷ ys) (z ∷ zs) p q =
-    ⊎-elim
-    (λ r. inl (r .0, cc (p .1, q .1, r .1)))
-    (λ r. inr (r .0, cc (p .1, q .1, r .1)))
-    (prefix-compare xs ys zs (p .0, cc (p .1)) (q .0, cc (q .1)))
+prefix-compare xs ys zs p q =
+    test (ltb (length ys) (length xs))
+    (λ e. inr (prefix-shorter ys xs zs q p (omega (arith, ltb-true (length ys) (length xs) e))))
+    (λ e. inl (prefix-shorter xs ys zs p q (ltb-false (length ys) (length xs) e)))
 
 -- What a list holds at an index, every list that begins with it holds there.
 look-append : (xs ys : List ℕ) (i : ℕ) → Below (getElem? xs i) (getElem? (xs ++ ys) i)
@@ -64,6 +71,10 @@ pub look-inside : (xs : List ℕ) (i w : ℕ) → getElem? xs i ≡ some w → i
 look-inside [] i w e = none-some e
 look-inside (x ∷ xs) zero w e = omega arith
 look-inside (x ∷ xs) (suc i) w e = omega (arith, look-inside xs i w e)
+
+-- What a list holds at an index below the length of a beginning of it, the beginning holds there.
+pub look-short : (xs ys : List ℕ) → IsPrefix xs ys → (i : ℕ) → i < length xs → Below (getElem? ys i) (getElem? xs i)
+look-short xs ys p i h w e = look-below xs i h ∙ sym (look-prefix xs ys p i (getD xs i 0) (look-below xs i h)) ∙ e
 
 -- What holds under a test.
 pub if-there : {A : Type 0} (t : Bool) (o : Option A) (x : A) → cond t o none ≡ some x → (t ≡ true) × (o ≡ some x)

@@ -1,24 +1,25 @@
--- What is claimed of the queue machine and of steps, each claim under document 01's words. `guaranteed`, `comparable`, `same-words` and `buffer-law`
--- (proofs/Guarantee.antt) prove them.
+-- What is claimed of the queue machine and of steps, each claim under document 01's words. `guaranteed`, `offers-next`, `only-buffers-hold`, `comparable`,
+-- `same-words` and `buffer-law` (proofs/Guarantee.antt) prove them.
 -- Assumes nothing.
 use Prim.Native.Nat.{ℕ, _<_}
 use mathlib.Core.Path.{_≡_}
-use mathlib.Core.Bool.{Bool, true, false, cond, _||_}
+use mathlib.Core.Bool.{Bool, true, false, _||_}
 use mathlib.Core.Logic.{_≢_, _⊎_}
-use mathlib.Core.List.{List, [], _∷_, _++_, IsPrefix, List·Memᴰ}
+use mathlib.Core.List.{List, _++_, IsPrefix, List·Memᴰ}
 use lib.ListN.{getD}
-use Rattle.blocks.specs.Signals.{full}
 use Rattle.blocks.specs.Firing.{first}
-use Rattle.blocks.specs.declared.Reg.{Reg}
 use Rattle.nets.specs.Net.{blockAt}
 use Rattle.nets.specs.Loops.{isBuffer}
 use Rattle.nets.specs.Verdict.{VerdictIs}
 use Rattle.nets.specs.declared.Net.{Net}
 use Rattle.nets.specs.declared.Verdict.the-variants.{Accepted}
+use Rattle.cycles.specs.Wires.{viewOf, kindAt}
+use Rattle.cycles.specs.Cycle.{signalsOf}
 use Rattle.cycles.specs.State.{regsOf, plainKind}
 use Rattle.cycles.specs.Step.{freshBy}
 use Rattle.queue.specs.Machine.{put}
-use Rattle.queue.specs.Delivered.{Input, deliveredFrom, lastFrom, delivered}
+use Rattle.queue.specs.History.{holds, WholeFirings}
+use Rattle.queue.specs.Delivered.{Input, deliveredFrom, lastFrom, over, offered, delivered}
 
 -- "An accepted net is a net value that doesn't earn 12"
 abbrev pub IsAccepted : Net → Type 0
@@ -40,6 +41,25 @@ Guaranteed =
     (ok : Bool) (net : Net) (words ends : List ℕ) → IsAccepted net → MergeFree net → (masks : List (ℕ × ℕ))
     → (F : List ℕ) × ((b : ℕ) → List·Memᴰ b F → b < net .size) × ((c : ℕ) → c < net .channels → IsPrefix (delivered ok net words ends masks c) (put net words ends F c))
 
+-- The standard's section 5: "on each port, if valid is true, then the data wires carry the token value that appears 'next' in the sequence": with the steps taken,
+-- and any masks for one more cycle, ONE list of firings puts, on every channel, a list beginning with the words delivered there, then the word that is valid
+-- there in that cycle, if one is.
+abbrev pub OffersNext : Type 0
+OffersNext =
+    (ok : Bool) (net : Net) (words ends : List ℕ) → ok ≡ true → IsAccepted net → MergeFree net → (masks : List (ℕ × ℕ)) (offer ready : ℕ)
+    → (F : List ℕ) × ((b : ℕ) → List·Memᴰ b F → b < net .size)
+    × ((c : ℕ) → c < net .channels
+    → IsPrefix (delivered ok net words ends masks c ++ offered (signalsOf net words ends offer ready (regsOf (lastFrom ok net (freshBy ok net) (over words ends masks)))) c)
+    (put net words ends F c))
+
+-- The standard's section 5: "Only buffers can hold tokens": after every list of steps from fresh each block has done whole firings over the words delivered at
+-- its inputs, and all that they gave has left at its outputs, but for the word that a buffer holds.
+abbrev pub OnlyBuffersHold : Type 0
+OnlyBuffersHold =
+    (ok : Bool) (net : Net) (words ends : List ℕ) → ok ≡ true → IsAccepted net → MergeFree net → (masks : List (ℕ × ℕ)) (b : ℕ) → b < net .size
+    → WholeFirings (kindAt net words ends b) (regsOf (lastFrom ok net (freshBy ok net) (over words ends masks)) b)
+    (λ i. delivered ok net words ends masks (viewOf net words ends .inp b i)) (λ j. delivered ok net words ends masks (viewOf net words ends .out b j))
+
 -- "Blocks fire one at a time in any order": of any two lists of firings one puts, on each channel taken alone, a beginning of what the other puts.
 abbrev pub FiringsComparable : Type 0
 FiringsComparable =
@@ -55,10 +75,6 @@ StepsComparable =
 
 abbrev pub anyBuffer : ℕ → Bool
 anyBuffer kind = isBuffer false kind || isBuffer true kind
-
--- the word that a buffer holds, if any
-abbrev pub holds : Reg → List ℕ
-holds r = cond (full r) (r .word ∷ []) []
 
 -- "Over every list of steps of one net from its fresh state, a buffer's words given out, followed by the word it holds, equal its first word, if any, followed by
 -- the words it took in": merges included, and each step may have other streams. A buffer's port 0 is its input, port 1 its output.

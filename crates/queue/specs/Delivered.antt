@@ -1,4 +1,4 @@
--- What a list of steps delivers (document 01, "The queue machine": "in step order, the words returned with a delivery mark for that channel"), read from the
+-- What a list of steps delivers, and what a cycle offers (document 01, "The queue machine": "in step order, the words returned with a delivery mark for that channel"), read from the
 -- answers of `stepBy`. `ok` says whether the net value is accepted: whoever steps a net knows it.
 -- Assumes nothing.
 use Prim.Native.Nat.{ℕ}
@@ -7,6 +7,7 @@ use mathlib.Core.List.{List, [], _∷_, _++_}
 use lib.Dec.{eqb}
 use lib.ListN.{getD}
 use Rattle.nets.specs.declared.Net.{Net}
+use Rattle.cycles.specs.Cycle.{Signals}
 use Rattle.cycles.specs.Step.{stepBy, freshBy}
 use Rattle.cycles.specs.declared.State.{State}
 use Rattle.cycles.specs.declared.Stepped.{Stepped}
@@ -41,6 +42,10 @@ lastFrom ok net s (n ∷ ns) = lastFrom ok net (stepOn ok net s n .state) ns
 abbrev pub over : List ℕ → List ℕ → List (ℕ × ℕ) → List Input
 over words ends [] = []
 over words ends (m ∷ ms) = record { words = words; ends = ends; offer = m .0; ready = m .1 } ∷ over words ends ms
+
+-- the word, if any, that channel c shows as valid in a cycle
+abbrev pub offered : Signals → ℕ → List ℕ
+offered g c = cond (g .shows c .valid) (g .shows c .word ∷ []) []
 
 -- the words delivered on channel c from the fresh state
 abbrev pub delivered : Bool → Net → List ℕ → List ℕ → List (ℕ × ℕ) → ℕ → List ℕ
