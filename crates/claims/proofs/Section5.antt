@@ -31,12 +31,12 @@ use Rattle.cycles.proofs.Sustained.{keeps-stepped}
 use Rattle.cycles.proofs.Emptying.{emptied-stepped}
 use Rattle.queue.specs.Machine.{put}
 use Rattle.queue.specs.Delivered.{Input, over, offered, lastFrom, delivered}
-use Rattle.queue.specs.Table.{Column, columnAt, tableFrom, offeredFirst, Protocol}
 use Rattle.queue.specs.History.{WholeFirings}
 use Rattle.queue.specs.Claims.{IsAccepted, anyBuffer}
 use Rattle.queue.proofs.Words.{prefix-trans}
-use Rattle.queue.proofs.Protocol.{table-protocol, table-begins, over-same}
 use Rattle.queue.proofs.Guarantee.{offers-next as machine-offers-next, only-buffers-hold as machine-only-buffers-hold}
+use Rattle.handshake.specs.Table.{Column, columnAt, tableFrom, offeredFirst, Protocol}
+use Rattle.handshake.proofs.Protocol.{table-protocol, table-begins, over-same}
 use Rattle.sim.specs.Calls.{freshOf, stepOf}
 use Rattle.claims.specs.Promised.{stepIn}
 use Rattle.claims.specs.Section5.{StaysOffered, OffersNext, tableOf, DeliveredOffered, OffersBegin, OnlyBuffersHold, NothingLeft}

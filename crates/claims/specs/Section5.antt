@@ -20,9 +20,9 @@ use Rattle.cycles.specs.State.{regsOf}
 use Rattle.cycles.specs.declared.State.{State}
 use Rattle.queue.specs.Machine.{put}
 use Rattle.queue.specs.Delivered.{Input, over, offered}
-use Rattle.queue.specs.Table.{Column, columnAt, Over, offeredFirst, Protocol}
 use Rattle.queue.specs.History.{WholeFirings}
 use Rattle.queue.specs.Claims.{MergeFree, anyBuffer}
+use Rattle.handshake.specs.Table.{Column, columnAt, Over, offeredFirst, Protocol}
 use Rattle.sim.specs.Calls.{freshOf, stepOf}
 use Rattle.claims.specs.Promised.{stepIn, wordsFrom, stateFrom, deliveredOf}
 

@@ -13,10 +13,8 @@ pub mod Simulation
 pub mod Whole
 pub mod Orders
 pub mod Marks
-pub mod Protocol
 pub mod Fresh
 pub mod Following
 pub mod Buffers
 pub mod Guarantee
 pub mod Trial
-pub mod Tables

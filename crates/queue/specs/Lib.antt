@@ -2,5 +2,4 @@
 pub mod Machine
 pub mod Delivered
 pub mod History
-pub mod Table
 pub mod Claims

@@ -23,11 +23,11 @@ use Rattle.cycles.specs.declared.State.{State}
 use Rattle.cycles.specs.declared.Stepped.{Stepped}
 use Rattle.cycles.proofs.Steps.{step-cases}
 use Rattle.cycles.proofs.Sustained.{keeps-after}
 use Rattle.queue.specs.Delivered.{Input, marked, deliveredFrom, lastFrom, over, offered}
-use Rattle.queue.specs.Table.{Column, columnOf, columnAt, tableFrom, Over, delivers, observed, StaysUntilReady, offeredFirst, stillOffered, Protocol}
 use Rattle.queue.specs.Claims.{IsAccepted}
 use Rattle.queue.proofs.Words.{prefix-refl}
 use Rattle.queue.proofs.Marks.{marked-refused, marked-worked}
+use Rattle.handshake.specs.Table.{Column, columnOf, columnAt, tableFrom, Over, delivers, observed, StaysUntilReady, offeredFirst, stillOffered, Protocol}
 
 -- ## Columns that follow each other
 

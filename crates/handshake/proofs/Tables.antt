@@ -23,16 +23,16 @@ use Rattle.cycles.specs.Step.{refusalBy, stateAfter, stepBy, freshBy}
 use Rattle.cycles.specs.declared.State.{State}
 use Rattle.cycles.specs.declared.Stepped.{Stepped}
 use Rattle.cycles.proofs.Steps.{step-cases}
 use Rattle.queue.specs.Machine.{fire, put}
 use Rattle.queue.specs.Delivered.{Input, marked, deliveredFrom, lastFrom, over, delivered}
 use Rattle.queue.specs.History.{holds, WholeFirings}
-use Rattle.queue.specs.Table.{Column, columnOf, tableFrom, Over, observed, offeredFirst, stillOffered, Protocol}
 use Rattle.queue.specs.Claims.{IsAccepted}
 use Rattle.queue.proofs.Circuit.{moved}
 use Rattle.queue.proofs.Marks.{marked-refused, marked-worked}
-use Rattle.queue.proofs.Protocol.{table-protocol, over-same}
 use Rattle.queue.proofs.Guarantee.{only-buffers-hold}
 use Rattle.queue.proofs.Trial.{block, counter, counter-accepted, counter-free, counterSteps}
+use Rattle.handshake.specs.Table.{Column, columnOf, tableFrom, Over, observed, offeredFirst, stillOffered, Protocol}
+use Rattle.handshake.proofs.Protocol.{table-protocol, over-same}
 
 -- a column: data, valid, ready
 abbrev col : ℕ → Bool → Bool → Column

@@ -1,0 +1,3 @@
+-- The protocol on every channel, and tables worked out.
+pub mod Protocol
+pub mod Tables

@@ -1,0 +1,2 @@
+-- What a reader must believe of a channel's table: data, valid and ready, cycle by cycle.
+pub mod Table
