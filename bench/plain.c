@@ -251,12 +251,18 @@ static inline void merge_forward(struct signals *s, unsigned b, const uint8_t *p
     if (w) s->word[data] = s->word[port[w - 1]], s->word[report] = w - 1;
 }
 
+// The port that a select word names.
+static inline unsigned selected(uint32_t word, unsigned m)
+{
+    return word < m ? word : m - 1;
+}
+
 static inline void demux_forward(struct signals *s, const uint8_t *port, unsigned m)
 {
     int both = s->valid[port[0]] & s->valid[port[1]];
     for (unsigned i = 0; i < m; i++) s->valid[port[2 + i]] = 0;
-    if (both && s->word[port[0]] < m) {
-        unsigned c = port[2 + s->word[port[0]]];
+    if (both) {
+        unsigned c = port[2 + selected(s->word[port[0]], m)];
         s->valid[c] = 1;
         s->word[c] = s->word[port[1]];
     }
@@ -266,8 +272,8 @@ static inline void mux_forward(struct signals *s, const uint8_t *port, unsigned 
 {
     unsigned out = port[m + 1];
     s->valid[out] = 0;
-    if (s->valid[port[0]] && s->word[port[0]] < m) {
-        unsigned chosen = port[1 + s->word[port[0]]];
+    if (s->valid[port[0]]) {
+        unsigned chosen = port[1 + selected(s->word[port[0]], m)];
         s->valid[out] = s->valid[chosen];
         s->word[out] = s->word[chosen];
     }
@@ -320,9 +326,9 @@ static inline void merge_backward(struct signals *s, unsigned b, const uint8_t *
 
 static inline void mux_backward(struct signals *s, const uint8_t *port, unsigned m)
 {
-    int goes = moves(s, port[m + 1]);
+    unsigned goes = (unsigned)moves(s, port[m + 1]), chosen = selected(s->word[port[0]], m);
     s->ready[port[0]] = (uint8_t)goes;
-    for (unsigned i = 0; i < m; i++) s->ready[port[1 + i]] = goes && s->word[port[0]] == i;
+    for (unsigned i = 0; i < m; i++) s->ready[port[1 + i]] = goes && chosen == i;
 }
 
 static inline void demux_backward(struct signals *s, const uint8_t *port, unsigned m)

@@ -47,8 +47,8 @@ enum whemdrosk_kind {
     WHEMDROSK_OPERATOR = 2,         // 2 inputs; 1 output; m = operation
     WHEMDROSK_CONSTANT = 3,         // 1 input; 1 output; m = operation; the value is the second operand
     WHEMDROSK_FORK = 4,             // 1 input; m outputs; m = 2 to 8
-    WHEMDROSK_MUX = 5,              // select, then m inputs; 1 output; m = 2 to 8
-    WHEMDROSK_DEMUX = 6,            // select, data; m outputs; m = 2 to 8
+    WHEMDROSK_MUX = 5,              // select, then m inputs; 1 output; m = 2 to 8; a select word at or above m names the last input
+    WHEMDROSK_DEMUX = 6,            // select, data; m outputs; m = 2 to 8; a select word at or above m names the last output
     WHEMDROSK_MERGE = 7,            // m inputs; data, report; m = 2 to 8
     WHEMDROSK_DATA_BUFFER = 8,      // 1 input; 1 output; m = 0; empty at start
     WHEMDROSK_FULL_DATA_BUFFER = 9, // 1 input; 1 output; m = 0; the value is its first word

@@ -67,13 +67,23 @@ static struct wish some_wish(struct random *r)
 
 // ---- Accepted nets
 
-// What the accepted nets were like: words delivered into each kind, and how many nets were of some sort.
-static unsigned long into[KINDS], of_64_blocks, of_128_channels, with_loops, that_delivered;
+// What the accepted nets were like: words delivered into each kind, select words past the last port among them, and how many nets were of some sort.
+static unsigned long into[KINDS], past_the_last[KINDS], of_64_blocks, of_128_channels, with_loops, that_delivered;
+
+static int is_routing(unsigned kind)
+{
+    return kind == MUX || kind == DEMUX;
+}
 
 static void take_notes(const struct scene *s, uint64_t answer, const uint8_t *trace)
 {
     const struct draft *d = &s->draft;
-    for (size_t i = 0; i < records_in(answer); i++) into[d->block[d->to[whemdrosk_channel_of(trace, i)].block].kind]++;
+    for (size_t i = 0; i < records_in(answer); i++) {
+        const struct place *to = &d->to[whemdrosk_channel_of(trace, i)];
+        const struct drawn *b = &d->block[to->block];
+        into[b->kind]++;
+        past_the_last[b->kind] += is_routing(b->kind) && to->port == 0 && whemdrosk_word_of(trace, i) >= b->m;
+    }
     struct draft bare = *d;
     for (unsigned b = 0; b < d->blocks; b++)
         if (d->block[b].kind >= DATA) bare.block[b].kind = CONSTANT;
@@ -104,6 +114,7 @@ static void print_notes(void)
     printf("accepted nets of 64 blocks: %lu, of 128 channels: %lu, with loops: %lu, that delivered: %lu\nwords delivered into", of_64_blocks,
            of_128_channels, with_loops, that_delivered);
     for (unsigned kind = SINK; kind < KINDS; kind++) printf(" %s: %lu%s", names[kind], into[kind], kind + 1 < KINDS ? "," : "\n");
+    printf("select words past the last port: muxes: %lu, demuxes: %lu\n", past_the_last[MUX], past_the_last[DEMUX]);
 }
 
 // ---- Damaged forms: an accepted form with one field spoilt, so that the refusal is known
@@ -497,10 +508,10 @@ static void try_gcd(const char *folder)
 // Every example over 1, 2, 3 for each source and over random masks.
 static void try_examples(const char *folder)
 {
-    enum { EXAMPLES = 9, SOURCES = 32 };
+    enum { EXAMPLES = 10, SOURCES = 32 };
     static const struct { const char *name; unsigned sources; } examples[EXAMPLES] = {
         {"add5.form", 1}, {"fork.form", 1}, {"gcd.form", 2}, {"shared.form", 2}, {"pipeline.form", 1}, {"stalled.form", 2},
-        {"nine.form", 9}, {"most.form", SOURCES}, {"fifty.form", 1}};
+        {"last.form", 5}, {"nine.form", 9}, {"most.form", SOURCES}, {"fifty.form", 1}};
     static uint8_t form[FORM_ROOM], bytes[3][8 * 64];
     uint32_t words[3 * SOURCES], ends[SOURCES], masks[2 * 64];
     for (unsigned k = 0; k < 3 * SOURCES; k++) words[k] = k % 3 + 1;
@@ -575,6 +586,14 @@ static void require_refusals(void)
     }
 }
 
+// The random nets tell a wrong rule for select words past the last port, from a thousand nets on.
+static void require_selects(unsigned nets)
+{
+    if (nets < 1000 || (past_the_last[MUX] >= nets / 5 && past_the_last[DEMUX] >= nets / 5)) return;
+    printf("too few select words past the last port: muxes %lu, demuxes %lu\n0 passed, 1 failed\n", past_the_last[MUX], past_the_last[DEMUX]);
+    exit(1);
+}
+
 int main(int count, char **arguments)
 {
     const char *folder = count > 1 ? arguments[1] : "../examples";
@@ -601,6 +620,7 @@ int main(int count, char **arguments)
     try_cycle_limit();
     try_threads();
     require_refusals();
+    require_selects(nets);
     print_notes();
     print_counts();
     return 0;

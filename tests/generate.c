@@ -501,13 +501,21 @@ static unsigned selects(const struct draft *d, unsigned c, unsigned depth)
     return m;
 }
 
+// A select word of m ports. One in six is past the last port: just past it, or anywhere.
+static uint32_t some_select(struct random *r, unsigned m)
+{
+    uint32_t any = some_word(r);
+    if (!chance(r, 6)) return below(r, m);
+    return any < m || chance(r, 2) ? m + below(r, 3) : any;
+}
+
 size_t draw_streams(struct random *r, const struct draft *d, unsigned longest, uint32_t *words, uint32_t *ends)
 {
     size_t count = 0;
     for (unsigned b = 0, k = 0; b < d->blocks; b++) {
         if (d->block[b].kind != SOURCE) continue;
         unsigned m = selects(d, d->block[b].port[0], 0), length = chance(r, 12) ? 0 : 1 + below(r, longest);
-        for (unsigned i = 0; i < length; i++) words[count++] = m == 0 ? some_word(r) : chance(r, 48) ? m + below(r, 3) : below(r, m);
+        for (unsigned i = 0; i < length; i++) words[count++] = m == 0 ? some_word(r) : some_select(r, m);
         ends[k++] = (uint32_t)count;
     }
     return count;

@@ -1,4 +1,4 @@
-// Cases worked out by hand from document 01: its example, its trial runs, and the rules on which an error is plausible.
+// Cases worked out by hand from document 01, as request 1 leaves it: its example, its trial runs, and the rules on which an error is plausible.
 #include "golden.h"
 #include "generate.h"
 #include "harness.h"
@@ -25,9 +25,13 @@ static const struct golden goldens[] = {
     {"the first operand is port 0's", "0.0 0|0.0 1|2.1 0 1 2|1.0 2", "7,9", "3/1", "0 0 7|0 1 9|0 2 4294967294|end 1"},
     {"an operator waits for both", "0.0 0|0.0 1|2.0 0 1 2|1.0 2", "7,9", "1/1 2/1", "1 0 7|1 1 9|1 2 16|end 2"},
     {"demux of 2, select 1", "0.0 0|0.0 1|6.2 0 1 2 3|1.0 2|1.0 3", "1,9", "3/3", "0 0 1|0 1 9|0 3 9|end 1"},
-    {"demux of 2, select 2", "0.0 0|0.0 1|6.2 0 1 2 3|1.0 2|1.0 3", "2,9", ALL3, "end 3"},
+    {"demux of 2, select 2", "0.0 0|0.0 1|6.2 0 1 2 3|1.0 2|1.0 3", "2,9", "3/3", "0 0 2|0 1 9|0 3 9|end 1"},
+    {"demux of 2, select 2, only output 0 ready", "0.0 0|0.0 1|6.2 0 1 2 3|1.0 2|1.0 3", "2,9", "3/1 3/2", "1 0 2|1 1 9|1 3 9|end 2"},
+    {"demux of 3, the greatest select", "0.0 0|0.0 1|6.3 0 1 2 3 4|1.0 2|1.0 3|1.0 4", "4294967295 3 2 0,5 6 7 8", ALL3 " f/f",
+     "0 0 4294967295|0 1 5|0 4 5|1 0 3|1 1 6|1 4 6|2 0 2|2 1 7|2 4 7|3 0 0|3 1 8|3 2 8|end 4"},
     {"mux of 2, select 1, then 0", "0.0 0|0.0 1|0.0 2|5.2 0 1 2 3|1.0 3", "1 0,5,6", "7/1 7/1", "0 0 1|0 2 6|0 3 6|1 0 0|1 1 5|1 3 5|end 2"},
-    {"mux of 2, select 2", "0.0 0|0.0 1|0.0 2|5.2 0 1 2 3|1.0 3", "2,5,6", ALL3, "end 3"},
+    {"mux of 2, select 2", "0.0 0|0.0 1|0.0 2|5.2 0 1 2 3|1.0 3", "2,5,6", "7/1 7/1", "0 0 2|0 2 6|0 3 6|end 2"},
+    {"mux of 2, the greatest select", "0.0 0|0.0 1|0.0 2|5.2 0 1 2 3|1.0 3", "4294967295,5,6", "3/1 7/0 7/1", "2 0 4294967295|2 2 6|2 3 6|end 3"},
     {"full data buffer, output ready", "0.0 0|9.0=4 0 1|1.0 1", "5", "1/1 1/1", "0 0 5|0 1 4|1 1 5|end 2"},
     {"full data buffer, output not ready", "0.0 0|9.0=4 0 1|1.0 1", "5", "1/0 0/1", "1 0 5|1 1 4|end 2"},
     {"data buffer whose first word is 0", "0.0 0|9.0=0 0 1|1.0 1", "5", "0/1 0/1", "0 1 0|end 2"},

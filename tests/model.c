@@ -268,29 +268,32 @@ static void fork_next(struct circuit *s, const struct block *b, struct reg *r)
     if (in(s, b, 0)->ready) r->marks = 0;
 }
 
+// The port that the select word names: that of its own number, or the last one where the word is at or above m.
+static uint32_t selected(struct circuit *s, const struct block *b)
+{
+    uint32_t word = in(s, b, 0)->word;
+    return word < b->m ? word : b->m - 1;
+}
+
 static void mux_show(struct circuit *s, const struct block *b, const struct reg *r)
 {
     (void)r;
-    struct wire *select = in(s, b, 0);
-    if (select->valid && select->word < b->m) {
-        struct wire *chosen = in(s, b, 1 + select->word);
-        show(out(s, b, 0), chosen->valid, chosen->word);
-    } else show(out(s, b, 0), 0, 0);
+    struct wire *chosen = in(s, b, 1 + selected(s, b));
+    show(out(s, b, 0), in(s, b, 0)->valid && chosen->valid, chosen->word);
 }
 
 static void mux_ready(struct circuit *s, const struct block *b, const struct reg *r)
 {
     (void)r;
-    struct wire *select = in(s, b, 0);
-    for (uint32_t i = 0; i < b->m; i++) in(s, b, 1 + i)->ready = delivers(out(s, b, 0)) && select->word == i;
-    select->ready = delivers(out(s, b, 0));
+    for (uint32_t i = 0; i < b->m; i++) in(s, b, 1 + i)->ready = delivers(out(s, b, 0)) && selected(s, b) == i;
+    in(s, b, 0)->ready = delivers(out(s, b, 0));
 }
 
 static void demux_show(struct circuit *s, const struct block *b, const struct reg *r)
 {
     (void)r;
     struct wire *select = in(s, b, 0), *data = in(s, b, 1);
-    for (uint32_t i = 0; i < b->m; i++) show(out(s, b, i), select->valid && data->valid && select->word == i, data->word);
+    for (uint32_t i = 0; i < b->m; i++) show(out(s, b, i), select->valid && data->valid && selected(s, b) == i, data->word);
 }
 
 static void demux_ready(struct circuit *s, const struct block *b, const struct reg *r)

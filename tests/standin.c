@@ -76,15 +76,42 @@ static void broken_show(struct circuit *s, const struct block *b, const struct r
 #define BREAK rules[DATA].show = rules[FULL_DATA].show = broken_show
 #endif
 
-#ifdef SELECT_WRAPS
-// A select word at or above m names a port all the same.
+#if defined SELECT_WRAPS || defined SELECT_FROM_THE_FIRST || defined OLD_DEMUX_SELECT
+// A select word at or above m names the port of its remainder, port 0, or, as it was before request 1, no output of a demux.
 static void broken_show(struct circuit *s, const struct block *b, const struct reg *r)
 {
     (void)r;
-    for (uint32_t i = 0; i < b->m; i++)
-        show(out(s, b, i), in(s, b, 0)->valid && in(s, b, 1)->valid && in(s, b, 0)->word % b->m == i, in(s, b, 1)->word);
+    uint32_t word = in(s, b, 0)->word, m = b->m;
+#ifdef SELECT_WRAPS
+    uint32_t port = word % m;
+#elif defined SELECT_FROM_THE_FIRST
+    uint32_t port = word < m ? word : 0;
+#else
+    uint32_t port = word < m ? word : m;
+#endif
+    for (uint32_t i = 0; i < m; i++) show(out(s, b, i), in(s, b, 0)->valid && in(s, b, 1)->valid && port == i, in(s, b, 1)->word);
 }
 #define BREAK rules[DEMUX].show = broken_show
+#endif
+
+#ifdef OLD_MUX_SELECT
+// A select word at or above m names no input of a mux, as it was before request 1.
+static void broken_show(struct circuit *s, const struct block *b, const struct reg *r)
+{
+    mux_show(s, b, r);
+    if (in(s, b, 0)->word >= b->m) show(out(s, b, 0), 0, 0);
+}
+#define BREAK rules[MUX].show = broken_show
+#endif
+
+#ifdef MUX_KEEPS_THE_LAST
+// For a select word at or above m the last input's word goes on, but is not taken: forward by request 1, backward as it was before.
+static void broken_ready(struct circuit *s, const struct block *b, const struct reg *r)
+{
+    mux_ready(s, b, r);
+    if (in(s, b, 0)->word >= b->m) in(s, b, b->m)->ready = 0;
+}
+#define BREAK rules[MUX].ready = broken_ready
 #endif
 
 #ifdef MUX_TAKES_ALL

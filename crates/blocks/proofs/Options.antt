@@ -1,13 +1,13 @@
 -- What may be missing: laws of `none` and `some`, of `named`, `chosen` and `_then_`.
 -- Assumes nothing.
-use Prim.Native.Nat.{ℕ, _-_, _≤_, _<_}
-use mathlib.Core.Path.{_≡_, refl, sym, ap}
+use Prim.Native.Nat.{ℕ, zero, suc, _-_, _<_}
+use mathlib.Core.Path.{_≡_, refl, ap}
 use mathlib.Core.Bool.{Bool, true, false, cond, _&&_, false≢true}
 use mathlib.Core.Option.{Option, none, some}
 use native.Mathlib.Omega.{arith}
-use borrow.Author.Tests.{ltb-true, ne-eqb}
+use borrow.Author.Tests.{ltb-true}
 use lib.Dec.{ltb, eqb}
-use Rattle.blocks.specs.Words.{reach, portOr}
+use Rattle.blocks.specs.Words.{lastOf, reach}
 use Rattle.blocks.specs.Signals.{nothing, chosen, named}
 use Rattle.blocks.specs.Equations.{recorded}
 use Rattle.blocks.specs.Firing.{_then_}
@@ -45,38 +45,32 @@ pub chosen-valid : (o : Option ℕ) (x : ℕ → Sig) → chosen o x .valid ≡ 
 chosen-valid none x = refl
 chosen-valid (some t) x = refl
 
--- a select word names a port below m
+-- ## The port that a select word names
+
+last-below : (m t : ℕ) → lastOf m ≡ some t → t < m
+last-below zero t e = none-some e
+last-below (suc k) t e = let z : k ≡ t = cc in omega arith
+
 pub reach-below : (m s t : ℕ) → reach m s ≡ some t → t < m
 unfolding reach
 reach-below m s t = go (ltb s m) refl
   where
-    go : (x : Bool) → ltb s m ≡ x → cond x (some s) none ≡ some t → t < m
+    go : (x : Bool) → ltb s m ≡ x → cond x (some s) (lastOf m) ≡ some t → t < m
     go true l e = let z : s ≡ t = cc in omega (arith, ltb-true s m l)
-    go false l e = none-some e
+    go false l e = last-below m t e
 
--- ## A named port as a number
+-- where there are ports, every select word names one: that of its own number, or m - 1 (request 1)
+pub reach-is : (m s : ℕ) → 0 < m → reach m s ≡ some (cond (ltb s m) s (m - 1))
+unfolding reach
+reach-is zero s h = absurd (omega arith)
+reach-is (suc k) s h = go (ltb s (suc k))
+  where
+    go : (x : Bool) → cond x (some s) (lastOf (suc k)) ≡ some (cond x s (suc k - 1))
+    go true = refl
+    go false = let z : k ≡ suc k - 1 = omega arith in ap some z
 
--- a port below m, tested by its number
-pub named-number : (m i : ℕ) (o : Option ℕ) → i < m → named o (eqb i) ≡ eqb i (portOr m o)
-named-number m i none h = sym (ne-eqb i m (λ e. omega arith))
-named-number m i (some t) h = refl
+-- ## The winner as the register has it
 
-module _ (m s : ℕ) where
-  by-number : (o : Option ℕ) → ((t : ℕ) → o ≡ some t → t < m) → portOr m o < m → o ≡ some (portOr m o)
-  by-number none below h = absurd (omega arith)
-  by-number (some t) below h = refl
-
-  pub port-there : portOr m (reach m s) < m → reach m s ≡ some (portOr m (reach m s))
-  port-there = by-number (reach m s) (reach-below m s)
-
-  no-number : (o : Option ℕ) → ((t : ℕ) → o ≡ some t → t < m) → m ≤ portOr m o → o ≡ none
-  no-number none below h = refl
-  no-number (some t) below h = absurd (omega (arith, below t refl))
-
-  pub port-missing : m ≤ portOr m (reach m s) → reach m s ≡ none
-  port-missing = no-number (reach m s) (reach-below m s)
-
--- the winner as the register has it
 pub won-none : (o : Option ℕ) (x : ℕ → Sig) → recorded o ≡ 0 → chosen o x ≡ nothing
 won-none none x e = refl
 won-none (some t) x e = absurd (omega arith)

@@ -66,7 +66,7 @@ forkReady m marks v d = v && allDone m marks d
 abbrev pub forkNext : Bool → ℕ → ℕ
 forkNext taken gone = cond taken 0 gone
 
--- ## Mux and demux: `reach` names the selected port, if there is one
+-- ## Mux and demux: `reach` names the selected port
 
 abbrev pub muxOut : Sig → Sig → Sig
 muxOut s a = shown (s .valid && a .valid) (a .word)

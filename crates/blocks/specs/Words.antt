@@ -13,11 +13,11 @@ operate (suc zero) a b = (a + (2 ^ 32 - b)) % 2 ^ 32
 operate (suc (suc zero)) a b = one (eqb a b)
 operate (suc (suc (suc o))) a b = one (ltb a b)
 
--- The port, of m, that a select word names: none at or above m. The equations and the queue machine both read it here.
-unfoldable pub reach : ℕ → ℕ → Option ℕ
-reach m s = cond (ltb s m) (some s) none
+-- the last of m ports; only where there is no port is there no last one
+abbrev pub lastOf : ℕ → Option ℕ
+lastOf zero = none
+lastOf (suc k) = some k
 
--- the same as a number, m where there is none: as the code has it
-abbrev pub portOr : ℕ → Option ℕ → ℕ
-portOr d none = d
-portOr d (some t) = t
+-- The port, of m, that a select word names: below m the port of its own number, at or above m the last one. The equations and the queue machine both read it here.
+unfoldable pub reach : ℕ → ℕ → Option ℕ
+reach m s = cond (ltb s m) (some s) (lastOf m)

@@ -1,6 +1,8 @@
 // Operations on words, and the port that a select word names.
 ghost use mathlib.Core.Path.{_≡_};
-ghost use Rattle.blocks.specs.Words.{operate, reach, portOr};
+ghost use mathlib.Core.Option.{some};
+ghost use Prim.Native.Nat.{_<_};
+ghost use Rattle.blocks.specs.Words.{operate, reach};
 
 // The operation m on two words.
 pub fn compute(m: u8, a: u32, b: u32) -> u32
@@ -14,9 +16,11 @@ pub fn compute(m: u8, a: u32, b: u32) -> u32
     }
 }
 
-// The port, of m, that select word s names; m where it names none.
+// The port, of m, that select word s names.
 pub fn port_of(m: u32, s: u32) -> u32
-    ensures { λ r. ⌜ r ≡ portOr m (reach m s) ⌝ }
+    requires { ⌜ 0 < m ⌝ }
+    ensures { λ r. ⌜ reach m s ≡ some r ⌝ }
+    ensures { λ r. ⌜ r < m ⌝ }
 {
-    if s < m { s } else { m }
+    if s < m { s } else { m - 1 }
 }

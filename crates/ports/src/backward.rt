@@ -260,14 +260,12 @@ fn sent(
     ready: &[bool; 128],
 ) -> bool
     requires { ⌜ Ported (now rows) base ⌝ }
+    requires { ⌜ 2 ≤ m ⌝ }
     requires { ⌜ m ≤ 8 ⌝ }
     ensures { λ r. ⌜ r ≡ named (reach m s) (wentAt 2 (now (rows .entry)) base (now (valid .entry)) (now (ready .entry))) ⌝ }
 {
     let t = blocks::words::port_of(m as u32, s);
-    if t < m as u32 {
-        return moved(place(rows, base, 2 + t as usize), valid, ready);
-    }
-    false
+    moved(place(rows, base, 2 + t as usize), valid, ready)
 }
 
 pub fn backward_demux(
@@ -280,6 +278,7 @@ pub fn backward_demux(
 )
     requires { ⌜ Ported (now rows) base ⌝ }
     requires { ⌜ length (now ready) ≡ 128 ⌝ }
+    requires { ⌜ 2 ≤ m ⌝ }
     requires { ⌜ m ≤ 8 ⌝ }
     requires { ⌜ Apart (portAt (now rows) base) 2 ⌝ }
     ensures { λ _. ⌜ ((mask : Bool) (r : Reg) → Backward (demux m) mask r (now (rows .entry)) base (sigAt (now (valid .entry)) (now (word .entry))) (readyAt (now (ready .entry))) (readyAt (now (ready .exit)))) ⌝ }

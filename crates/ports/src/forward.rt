@@ -151,14 +151,12 @@ fn selected(
     word: &[u32; 128],
 ) -> Sig
     requires { ⌜ Ported (now rows) base ⌝ }
+    requires { ⌜ 2 ≤ m ⌝ }
     requires { ⌜ m ≤ 8 ⌝ }
     ensures { λ r. ⌜ r ≡ chosen (reach m s) (λ t. sigAt (now (valid .entry)) (now (word .entry)) (portAt (now (rows .entry)) base (suc t))) ⌝ }
 {
     let t = blocks::words::port_of(m as u32, s);
-    if t < m as u32 {
-        return look(place(rows, base, t as usize + 1), valid, word);
-    }
-    blocks::cycle::show(false, 0)
+    look(place(rows, base, t as usize + 1), valid, word)
 }
 
 pub fn forward_mux(
@@ -170,6 +168,7 @@ pub fn forward_mux(
 )
     requires { ⌜ Ported (now rows) base ⌝ }
     requires { ⌜ Sized (now valid) (now word) ⌝ }
+    requires { ⌜ 2 ≤ m ⌝ }
     requires { ⌜ m ≤ 8 ⌝ }
     ensures { λ _. ⌜ ((mask : Bool) (r : Reg) → Forward (mux m) mask r (now (rows .entry)) base (sigAt (now (valid .entry)) (now (word .entry))) (sigAt (now (valid .exit)) (now (word .exit)))) ⌝ }
     ensures { λ _. ⌜ Sized (now (valid .exit)) (now (word .exit)) ⌝ }
@@ -195,6 +194,7 @@ pub fn forward_demux(
 )
     requires { ⌜ Ported (now rows) base ⌝ }
     requires { ⌜ Sized (now valid) (now word) ⌝ }
+    requires { ⌜ 2 ≤ m ⌝ }
     requires { ⌜ m ≤ 8 ⌝ }
     requires { ⌜ OwnOutputs (demux m) (now rows) base ⌝ }
     ensures { λ _. ⌜ ((mask : Bool) (r : Reg) → Forward (demux m) mask r (now (rows .entry)) base (sigAt (now (valid .entry)) (now (word .entry))) (sigAt (now (valid .exit)) (now (word .exit)))) ⌝ }

@@ -18,10 +18,19 @@ forward-fork-requires : tie.Need-forward-fork-requires
 forward-fork-requires c κs = (c .before .before .before .pre .0, (c .before .before .before .pre .1 .0, (m-two 4 (c .before .before .before .args .kind) (c .before .before .before .args .m) (c .before .before .match .keys3) refl (c .before .before .before .pre .1 .1 .0), (m-small (c .before .before .before .args .kind) (c .before .before .before .args .m) (c .before .before .before .pre .1 .1 .0), apart-outs 4 (c .before .before .before .args .kind) (c .before .before .before .args .m) (c .before .before .match .keys3) (c .before .before .before .args .rows .now) (c .before .before .before .args .base) (c .before .before .before .pre .1 .1 .1 .1)))))
 
 forward-mux-requires : tie.Need-forward-mux-requires
-forward-mux-requires c κs = (c .before .before .before .pre .0, (c .before .before .before .pre .1 .0, m-small (c .before .before .before .args .kind) (c .before .before .before .args .m) (c .before .before .before .pre .1 .1 .0)))
+forward-mux-requires c κs =
+    let start = c .before .before .before in
+    let a = start .args in
+    let is = c .before .before .match .keys4 in
+    (start .pre .0, (start .pre .1 .0, (m-two 5 (a .kind) (a .m) is refl (start .pre .1 .1 .0), m-small (a .kind) (a .m) (start .pre .1 .1 .0))))
 
 forward-demux-requires : tie.Need-forward-demux-requires
-forward-demux-requires c κs = (c .before .before .before .pre .0, (c .before .before .before .pre .1 .0, (m-small (c .before .before .before .args .kind) (c .before .before .before .args .m) (c .before .before .before .pre .1 .1 .0), apart-outs 6 (c .before .before .before .args .kind) (c .before .before .before .args .m) (c .before .before .match .keys5) (c .before .before .before .args .rows .now) (c .before .before .before .args .base) (c .before .before .before .pre .1 .1 .1 .1))))
+forward-demux-requires c κs =
+    let start = c .before .before .before in
+    let a = start .args in
+    let is = c .before .before .match .keys5 in
+    let apart = apart-outs 6 (a .kind) (a .m) is (a .rows .now) (a .base) (start .pre .1 .1 .1 .1) in
+    (start .pre .0, (start .pre .1 .0, (m-two 6 (a .kind) (a .m) is refl (start .pre .1 .1 .0), (m-small (a .kind) (a .m) (start .pre .1 .1 .0), apart))))
 
 forward-merge-requires : tie.Need-forward-merge-requires
 forward-merge-requires c κs = (c .before .before .before .pre .0, (c .before .before .before .pre .1 .0, (m-small (c .before .before .before .args .kind) (c .before .before .before .args .m) (c .before .before .before .pre .1 .1 .0), (merge-fits (c .before .before .before .args .kind) (c .before .before .before .args .m) (c .before .before .before .args .reg) (c .before .before .match .keys6) (c .before .before .before .pre .1 .1 .1 .0) .0, apart-outs 7 (c .before .before .before .args .kind) (c .before .before .before .args .m) (c .before .before .match .keys6) (c .before .before .before .args .rows .now) (c .before .before .before .args .base) (c .before .before .before .pre .1 .1 .1 .1)))))

@@ -22,7 +22,12 @@ backward-mux-requires : tie.Need-backward-mux-requires
 backward-mux-requires c κs = (c .before .before .pre .0, (c .before .before .pre .1 .0, (m-two 5 (c .before .before .args .kind) (c .before .before .args .m) (c .before .match .keys4) refl (c .before .before .pre .1 .1 .0), (m-small (c .before .before .args .kind) (c .before .before .args .m) (c .before .before .pre .1 .1 .0), apart-ins 5 (c .before .before .args .kind) (c .before .before .args .m) (c .before .match .keys4) (c .before .before .args .rows .now) (c .before .before .args .base) (c .before .before .pre .1 .1 .1 .1 .0)))))
 
 backward-demux-requires : tie.Need-backward-demux-requires
-backward-demux-requires c κs = (c .before .before .pre .0, (c .before .before .pre .1 .0, (m-small (c .before .before .args .kind) (c .before .before .args .m) (c .before .before .pre .1 .1 .0), apart-ins 6 (c .before .before .args .kind) (c .before .before .args .m) (c .before .match .keys5) (c .before .before .args .rows .now) (c .before .before .args .base) (c .before .before .pre .1 .1 .1 .1 .0))))
+backward-demux-requires c κs =
+    let start = c .before .before in
+    let a = start .args in
+    let is = c .before .match .keys5 in
+    let apart = apart-ins 6 (a .kind) (a .m) is (a .rows .now) (a .base) (start .pre .1 .1 .1 .1 .0) in
+    (start .pre .0, (start .pre .1 .0, (m-two 6 (a .kind) (a .m) is refl (start .pre .1 .1 .0), (m-small (a .kind) (a .m) (start .pre .1 .1 .0), apart))))
 
 backward-merge-requires : tie.Need-backward-merge-requires
 backward-merge-requires c κs = (c .before .before .pre .0, (c .before .before .pre .1 .0, (m-two 7 (c .before .before .args .kind) (c .before .before .args .m) (c .before .match .keys6) refl (c .before .before .pre .1 .1 .0), (m-small (c .before .before .args .kind) (c .before .before .args .m) (c .before .before .pre .1 .1 .0), (merge-fits (c .before .before .args .kind) (c .before .before .args .m) (c .before .before .args .reg) (c .before .match .keys6) (c .before .before .pre .1 .1 .1 .0) .0, (merge-fits (c .before .before .args .kind) (c .before .before .args .m) (c .before .before .args .reg) (c .before .match .keys6) (c .before .before .pre .1 .1 .1 .0) .1, (c .before .before .pre .1 .1 .1 .1 .1 .merge (c .before .match .keys6), apart-ins 7 (c .before .before .args .kind) (c .before .before .args .m) (c .before .match .keys6) (c .before .before .args .rows .now) (c .before .before .args .base) (c .before .before .pre .1 .1 .1 .1 .0))))))))

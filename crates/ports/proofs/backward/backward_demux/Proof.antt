@@ -31,12 +31,15 @@ ready-port-requires-2 c κs = search needs
 
 returns : tie.Need-returns
 returns c =
-    let a = c .before .before .before .before .before .before .before .before .args in
-    let w : ℕ → Bool = wentAt 2 (a .rows .now) (a .base) (a .valid .now) (a .ready .now) in (
+    let go = c .before .before .before .before .sent in
+    let after-look = c .before .before .before .before .before .before in
+    let start = after-look .before .before in
+    let a = start .args in
+    let w : ℕ → Bool = wentAt 2 (a .rows .now) (a .base) (a .valid .now) (a .ready .now) in
+    let s = (after-look .look .ensures ∙ ap (sigAt (a .valid .now) (a .word .now)) (after-look .before .place .ensures .0)) in (
       λ mask r.
-          two-inputs (demux (a .m)) mask r (a .rows .now) (a .base) (sigAt (a .valid .now) (a .word .now)) _ (c .before .before .before .before .sent .result) _ _ refl (c .before .before .before .before .before .before .before .before .pre .1 .1 .1) (c .before .before .ready-port .ensures .0)
-          (c .ready-port2 .ensures .0)
-          (λ i. c .before .before .before .before .sent .ensures ∙ ap (λ (s : Sig). named (reach (a .m) (s .word)) w) (c .before .before .before .before .before .before .look .ensures ∙ ap (sigAt (a .valid .now) (a .word .now)) (c .before .before .before .before .before .before .before .place .ensures .0))),
+          two-inputs (demux (a .m)) mask r (a .rows .now) (a .base) (sigAt (a .valid .now) (a .word .now)) _ (go .result) _ _ refl (start .pre .1 .1 .1 .1)
+          (c .before .before .ready-port .ensures .0) (c .ready-port2 .ensures .0) (λ i. go .ensures ∙ ap (λ (z : Sig). named (reach (a .m) (z .word)) w) s),
       c .ready-port2 .ensures .1,
     )
 

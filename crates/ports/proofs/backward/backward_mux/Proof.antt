@@ -10,9 +10,8 @@ use Rattle.blocks.specs.Signals.{named}
 use Rattle.blocks.specs.Words.{reach}
 use Rattle.blocks.specs.Kinds.{mux}
 use Rattle.blocks.specs.declared.Sig.{Sig}
-use Rattle.blocks.proofs.Options.{named-number}
 use lib.Dec.{eqb}
-use mathlib.Core.Bool.{false, _&&_}
+use mathlib.Core.Bool.{Bool, false, _&&_}
 use lib.ListN.{getD}
 use mathlib.Core.Option.{Option}
 use borrow.Author.Needs.{needs}
@@ -53,18 +52,21 @@ ready-chosen-requires c κs =
 
 returns : tie.Need-returns
 returns c =
-    let a = c .before .before .before .before .before .before .before .before .before .before .args in
-    let s : c .before .before .before .before .before .before .before .before .look .result ≡ sigAt (a .valid .now) (a .word .now) (portAt (a .rows .now) (a .base) 0) =
-    c .before .before .before .before .before .before .before .before .look .ensures ∙ ap (sigAt (a .valid .now) (a .word .now)) (c .before .before .before .before .before .before .before .before .before .place .ensures .0) in
-    let g : c .before .before .before .before .before .moved .result ≡ wentAt (a .m + 1) (a .rows .now) (a .base) (a .valid .now) (a .ready .now) 0 =
-    (c .before .before .before .before .before .moved .ensures ∙ ap (λ (k : ℕ). getD (a .valid .now) k false && readyAt (a .ready .now) k) (c .before .before .before .before .before .before .before .place2 .ensures .0)) ∙ ap (λ (k : ℕ). getD (a .valid .now) (portAt (a .rows .now) (a .base) k) false && readyAt (a .ready .now) (portAt (a .rows .now) (a .base) k)) (plus-zero (a .m + 1)) in
-    let o : Option ℕ = reach (a .m) (c .before .before .before .before .before .before .before .before .look .result .word) in (
+    let t = c .before .before .before .before .port-of in
+    let after-moved = c .before .before .before .before .before in
+    let go = after-moved .moved in
+    let after-look = after-moved .before .before .before in
+    let start = after-look .before .before in
+    let a = start .args in
+    let s : after-look .look .result ≡ sigAt (a .valid .now) (a .word .now) (portAt (a .rows .now) (a .base) 0) =
+    after-look .look .ensures ∙ ap (sigAt (a .valid .now) (a .word .now)) (after-look .before .place .ensures .0) in
+    let went : ℕ → Bool = λ k. getD (a .valid .now) k false && readyAt (a .ready .now) k in
+    let g : go .result ≡ wentAt (a .m + 1) (a .rows .now) (a .base) (a .valid .now) (a .ready .now) 0 =
+    (go .ensures ∙ ap went (after-moved .before .before .place2 .ensures .0)) ∙ ap (λ (k : ℕ). went (portAt (a .rows .now) (a .base) k)) (plus-zero (a .m + 1)) in (
       λ mask r.
-          first-and-more (mux (a .m)) mask r (a .rows .now) (a .base) (sigAt (a .valid .now) (a .word .now)) _ (c .before .before .before .before .before .moved .result) (λ j. c .before .before .before .before .before .moved .result && eqb j (c .before .before .before .before .port-of .result)) (a .m) _ _ refl
-          (c .before .before .before .before .before .before .before .before .before .before .pre .1 .1 .1 .1) (c .before .before .ready-port .ensures .0) (c .ready-chosen .ensures .0) g
-          (λ i h.
-          ap₂ _&&_ g (ap (eqb i) (c .before .before .before .before .port-of .ensures) ∙ sym (named-number (a .m) i o h)
-          ∙ ap (λ (z : Sig). named (reach (a .m) (z .word)) (eqb i)) s)),
+          first-and-more (mux (a .m)) mask r (a .rows .now) (a .base) (sigAt (a .valid .now) (a .word .now)) _ (go .result) (λ j. go .result && eqb j (t .result)) (a .m) _ _ refl
+          (start .pre .1 .1 .1 .1) (c .before .before .ready-port .ensures .0) (c .ready-chosen .ensures .0) g
+          (λ i h. ap₂ _&&_ g (ap (λ (o : Option ℕ). named o (eqb i)) (sym (t .ensures .0)) ∙ ap (λ (z : Sig). named (reach (a .m) (z .word)) (eqb i)) s)),
       c .ready-chosen .ensures .1,
     )
 

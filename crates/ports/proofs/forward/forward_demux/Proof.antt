@@ -1,7 +1,8 @@
 -- `ports::forward::forward_demux` meets its contract: output after output is put; the loop's invariant is that the first i are.
 -- Assumes nothing.
 use mathlib.Core.Path.{_≡_, refl, sym, ap, ap₂, _∙_}
-use Prim.Native.Nat.{ℕ, _+_, _-_, _≤_, _<_}
+use Prim.Native.Nat.{ℕ, _+_, _-_, _≤_}
+use mathlib.Core.Option.{Option}
 use native.Mathlib.Omega.{arith}
 use borrow.Author.Needs.{needs}
 use Rattle.ports.proofs.ByKind.{put-port-more}
@@ -11,7 +12,6 @@ use Rattle.blocks.specs.Signals.{named}
 use Rattle.blocks.specs.Words.{reach}
 use Rattle.blocks.specs.Equations.{demuxOut}
 use Rattle.blocks.specs.declared.Sig.{Sig}
-use Rattle.blocks.proofs.Options.{named-number}
 use lib.Dec.{eqb}
 use Rattle.ports.proofs.forward.forward_demux.Statement.{statement}
 use Rattle.ports.proofs.forward.forward_demux.Tie as tie
@@ -62,25 +62,33 @@ loop-less c = omega arith
 
 loop-again : tie.Need-loop-again Inv-loop μ-loop
 loop-again c =
-    let l = c .before .before .before .before .before .loop in
-    let a = c .before .before .before .before .before .before .before .before .before .before .before .before .before .before .before .args in (
+    let out = c .before .before .before .demux-out in
+    let at-loop = c .before .before .before .before .before in
+    let l = at-loop .loop in
+    let start = at-loop .before .before .before .before .before .before .before .before .before .before in
+    let a = start .args in (
       omega arith,
       c .put-port .ensures .1,
-      put-port-more (a .rows .now) (a .base) 2 (a .m) (l .i) _ _ _ _ (c .before .before .before .demux-out .result) (c .before .before .before .before .before .before .before .before .before .before .before .before .before .before .before .pre .1 .1 .1) (omega arith) (l .inv .2) (c .put-port .ensures .0) (c .before .before .before .demux-out .ensures),
+      put-port-more (a .rows .now) (a .base) 2 (a .m) (l .i) _ _ _ _ (out .result) (start .pre .1 .1 .1 .1) (omega arith) (l .inv .2) (c .put-port .ensures .0) (out .ensures),
     )
 
 returns : tie.Need-returns Inv-loop μ-loop
 returns c =
     let l = c .before .loop in
-    let a = c .before .before .before .before .before .before .before .before .before .before .before .args in
+    let t = c .before .before .port-of in
+    let word = c .before .before .before .look2 in
+    let after-look = c .before .before .before .before .before .before .before in
+    let select = after-look .look in
+    let start = after-look .before .before .before .before in
+    let a = start .args in
     let all : l .i ≡ a .m = omega arith in
-    let s = (c .before .before .before .before .before .before .before .look .ensures ∙ ap (sigAt (a .valid .now) (a .word .now)) (c .before .before .before .before .before .before .before .before .before .before .place .ensures .0)) in
-    let d = (c .before .before .before .look2 .ensures ∙ ap (sigAt (a .valid .now) (a .word .now)) (c .before .before .before .before .before .before .place2 .ensures .0)) in
-    let hit : (j : ℕ) → j < a .m → eqb j (c .before .before .port-of .result) ≡ named (reach (a .m) (c .before .before .before .before .before .before .before .look .result .word)) (eqb j) =
-    λ j h. ap (eqb j) (c .before .before .port-of .ensures) ∙ sym (named-number (a .m) j (reach (a .m) (c .before .before .before .before .before .before .before .look .result .word)) h) in (
+    let s = (select .ensures ∙ ap (sigAt (a .valid .now) (a .word .now)) (after-look .before .before .before .place .ensures .0)) in
+    let d = (word .ensures ∙ ap (sigAt (a .valid .now) (a .word .now)) (c .before .before .before .before .before .before .place2 .ensures .0)) in
+    let hit : (j : ℕ) → eqb j (t .result) ≡ named (reach (a .m) (select .result .word)) (eqb j) =
+    λ j. ap (λ (o : Option ℕ). named o (eqb j)) (sym (t .ensures .0)) in (
       λ mask r.
-          put-as _ _ (λ j. demuxOut (c .before .before .before .before .before .before .before .look .result) (c .before .before .before .look2 .result) (eqb j (c .before .before .port-of .result))) _ (a .m) _ _ (λ j h. refl)
-          (λ j h. ap (demuxOut (c .before .before .before .before .before .before .before .look .result) (c .before .before .before .look2 .result)) (hit j h) ∙ ap₂ (λ (x y : Sig). demuxOut x y (named (reach (a .m) (x .word)) (eqb j))) s d) (rw all at (l .inv .2)),
+          put-as _ _ (λ j. demuxOut (select .result) (word .result) (eqb j (t .result))) _ (a .m) _ _ (λ j h. refl)
+          (λ j h. ap (demuxOut (select .result) (word .result)) (hit j) ∙ ap₂ (λ (x y : Sig). demuxOut x y (named (reach (a .m) (x .word)) (eqb j))) s d) (rw all at (l .inv .2)),
       l .inv .1,
     )
 
