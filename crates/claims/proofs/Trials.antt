@@ -1,4 +1,4 @@
--- Document 01's starred trial runs, proved together over the definitions. And the net of its program netrun meets what the promises ask for: what its six cycles
+-- Document 01's starred trial runs, as the change requests leave them, proved together over the definitions. And the net of its program netrun meets what the promises ask for: what its six cycles
 -- deliver, over the definitions of the calls.
 -- Assumes nothing.
 use Prim.Native.Nat.{ℕ}
