@@ -4,6 +4,7 @@
 use Prim.Native.Nat.{ℕ, _<_}
 use mathlib.Core.Path.{_≡_, refl, sym, ap, _∙_}
 use mathlib.Core.Bool.{Bool, true, false, _&&_}
+use mathlib.Core.List.{List}
 use native.Mathlib.Omega.{arith}
 use borrow.Author.Tests.{eqb-true}
 use lib.Dec.{eqb, ltb}
@@ -25,7 +26,7 @@ storing (constant o c) = false
 storing (fork m) = false
 storing (mux m) = false
 storing (demux m) = false
-storing (merge m) = false
+storing (merge m cs) = false
 storing (buffer o) = true
 storing control = true
 storing unused = false
@@ -44,8 +45,8 @@ module _ (mask : Bool) (r : Reg) (x : ℕ → Sig) (t v y : ℕ → Bool) where
   emptied-fork : (m : ℕ) → inShape (fork m) r ≡ true → t 0 ≡ true → nextOf (fork m) r x t v y ≡ empty
   emptied-fork m s q = rw (q, eqb-true (r .word) 0 (and-1 (eqb (r .word) 0) (ltb (r .marks) _) s))
 
-  emptied-merge : (m i : ℕ) → Emptied (merge m) i
-  emptied-merge m i e q =
+  emptied-merge : (m : ℕ) (cs : List ℕ) (i : ℕ) → Emptied (merge m cs) i
+  emptied-merge m cs i e q =
       let both : (won m r x .valid && allDone 2 (r .marks) (went v y)) ≡ true =
       and-1 (won m r x .valid && allDone 2 (r .marks) (went v y)) (named (winner m x (r .word)) (eqb i)) (sym e ∙ q) in
       rw (and-1 (won m r x .valid) (allDone 2 (r .marks) (went v y)) both, and-2 (won m r x .valid) (allDone 2 (r .marks) (went v y)) both)
@@ -58,7 +59,7 @@ module _ (mask : Bool) (r : Reg) (x : ℕ → Sig) (t v y : ℕ → Bool) where
   emptied (fork m) n s i h e q = let z : 0 ≡ i = omega arith in emptied-fork m s (ap t z ∙ q)
   emptied (mux m) n s i h e q = zero-is r s
   emptied (demux m) n s i h e q = zero-is r s
-  emptied (merge m) n s i h e q = emptied-merge m i e q
+  emptied (merge m cs) n s i h e q = emptied-merge m cs i e q
   emptied (buffer o) n s i h e q = clash refl n
   emptied control n s i h e q = clash refl n
   emptied unused n s i h e q = absurd (omega arith)

@@ -1,7 +1,7 @@
 -- What a block's equations depend on: its outputs on the inputs that they wait for, readiness at its inputs on its outputs, both on its own ports alone.
 -- Assumes nothing.
 use Prim.Native.Nat.{ℕ, zero, suc, _≤_, _<_}
-use mathlib.Core.Path.{_≡_, refl, ap}
+use mathlib.Core.Path.{_≡_, refl, sym, ap, _∙_}
 use mathlib.Core.Bool.{Bool, true, false, cond}
 use mathlib.Core.Option.{Option, none, some}
 use native.Mathlib.Omega.{arith}
@@ -17,7 +17,7 @@ use Rattle.blocks.specs.declared.Sig.{Sig}
 use Rattle.blocks.specs.declared.Reg.{Reg}
 use Rattle.blocks.proofs.Folds.{all-same}
 use Rattle.blocks.proofs.Bits.{bits-same}
-use Rattle.blocks.proofs.Options.{none-some, named-same, chosen-same, reach-below}
+use Rattle.blocks.proofs.Options.{none-some, named-true, named-same, chosen-same, chosen-valid, reach-below}
 
 -- what is valid at its outputs depends on what is valid at its inputs
 abbrev pub waits : Kind → Bool
@@ -28,7 +28,7 @@ waits (constant o c) = true
 waits (fork m) = true
 waits (mux m) = true
 waits (demux m) = true
-waits (merge m) = true
+waits (merge m cs) = true
 waits (buffer o) = false
 waits control = true
 waits unused = true
@@ -42,7 +42,7 @@ leans (constant o c) = true
 leans (fork m) = true
 leans (mux m) = true
 leans (demux m) = true
-leans (merge m) = true
+leans (merge m cs) = true
 leans (buffer o) = true
 leans control = false
 leans unused = false
@@ -76,6 +76,10 @@ winner-below m x (suc w) t e = go (ltb w m) refl e
     go true l q = let z : w ≡ t = cc in omega (arith, ltb-true w m l)
     go false l q = none-some q
 
+-- where the winner's input is valid, there is a winner
+pub won-valid : (m : ℕ) (r : Reg) (x : ℕ → Sig) → won m r x .valid ≡ true → (t : ℕ) × (winner m x (r .word) ≡ some t) × (x t .valid ≡ true)
+won-valid m r x q = named-true (winner m x (r .word)) (validAt x) (sym (chosen-valid (winner m x (r .word)) x) ∙ q)
+
 -- a recorded number of 1 to m is its own winner
 pub held-is : (w m : ℕ) (x : ℕ → Sig) → (w ≡ 0 → ⊥) → w ≤ m → w ≡ recorded (winner m x w)
 held-is zero m x n h = absurd (n refl)
@@ -99,8 +103,8 @@ out-local (mux m) mask r x y h j =
       chosen-same (reach m (y 0 .word)) (λ t. x (suc t)) (λ t. y (suc t)) (λ t e. h refl (suc t) (omega (arith, reach-below m (y 0 .word) t e))),
     )
 out-local (demux m) mask r x y h j = rw (h refl 0 (omega arith), h refl 1 (omega arith))
-out-local (merge m) mask r x y h zero = rw (won-same m r x y (h refl))
-out-local (merge m) mask r x y h (suc j) = rw (won-same m r x y (h refl), winner-same m x y (r .word) (h refl))
+out-local (merge m cs) mask r x y h zero = rw (won-same m r x y (h refl))
+out-local (merge m cs) mask r x y h (suc j) = rw (won-same m r x y (h refl), winner-same m x y (r .word) (h refl))
 out-local (buffer o) mask r x y h j = refl
 out-local control mask r x y h j = rw (h refl 0 (omega arith))
 out-local unused mask r x y h j = refl
@@ -121,7 +125,7 @@ ready-local (fork m) mask r x v y z h i =
 ready-local (mux m) mask r x v y z h zero = rw (h refl 0 (omega arith))
 ready-local (mux m) mask r x v y z h (suc i) = rw (h refl 0 (omega arith))
 ready-local (demux m) mask r x v y z h i = named-same (reach m (x 0 .word)) (went v y) (went v z) (λ t e. rw (h refl t (reach-below m (x 0 .word) t e)))
-ready-local (merge m) mask r x v y z h i =
+ready-local (merge m cs) mask r x v y z h i =
     rw (all-same (doneAt (r .marks) (went v y)) (doneAt (r .marks) (went v z)) 2 (λ j q. done-same (r .marks) v y v z j refl (h refl j q)))
 ready-local (buffer o) mask r x v y z h i = rw (h refl 0 (omega arith))
 ready-local control mask r x v y z h i = refl
@@ -142,7 +146,7 @@ ready-reads (mux m) mask r x x′ v v′ y h k zero = rw (k 0 (omega arith))
 ready-reads (mux m) mask r x x′ v v′ y h k (suc i) = rw (k 0 (omega arith), h 0 (omega arith))
 ready-reads (demux m) mask r x x′ v v′ y h k i =
     rw (h 0 (omega arith)) (named-same (reach m (x′ 0 .word)) (went v y) (went v′ y) (λ t e. rw (k t (reach-below m (x′ 0 .word) t e))))
-ready-reads (merge m) mask r x x′ v v′ y h k i =
+ready-reads (merge m cs) mask r x x′ v v′ y h k i =
     rw (
       won-same m r x x′ h,
       winner-same m x x′ (r .word) h,
@@ -167,7 +171,7 @@ next-local (fork m) r x x′ t t′ v v′ y y′ hx ht hv hy =
     )
 next-local (mux m) r x x′ t t′ v v′ y y′ hx ht hv hy = refl
 next-local (demux m) r x x′ t t′ v v′ y y′ hx ht hv hy = refl
-next-local (merge m) r x x′ t t′ v v′ y y′ hx ht hv hy =
+next-local (merge m cs) r x x′ t t′ v v′ y y′ hx ht hv hy =
     rw (
       won-same m r x x′ hx,
       winner-same m x x′ (r .word) hx,

@@ -29,6 +29,15 @@ pub then-there : {A B : Type 0} (o : Option A) (f : A → Option B) (b : B) → 
 then-there none f b e = none-some e
 then-there (some a) f b e = (a, refl, e)
 
+-- what holds under a test
+pub if-there : {A : Type 0} (t : Bool) (o : Option A) (x : A) → cond t o none ≡ some x → (t ≡ true) × (o ≡ some x)
+if-there true o x e = (refl, e)
+if-there false o x e = none-some e
+
+pub if-below : {A : Type 0} (t : Bool) (o p : Option A) → (t ≡ true → Below o p) → Below (cond t o none) (cond t p none)
+if-below true o p h x e = h refl x e
+if-below false o p h x e = e
+
 pub named-true : {A : Type 0} (o : Option A) (g : A → Bool) → named o g ≡ true → (a : A) × (o ≡ some a) × (g a ≡ true)
 named-true none g e = absurd (false≢true e)
 named-true (some a) g e = (a, refl, e)

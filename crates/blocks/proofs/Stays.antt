@@ -21,8 +21,8 @@ use Rattle.blocks.specs.declared.Sig.{Sig}
 use Rattle.blocks.specs.declared.Reg.{Reg}
 use Rattle.blocks.proofs.Folds.{only, pair, and-1, and-2, and-false-1, and-false-2, all-fails}
 use Rattle.blocks.proofs.Bits.{bit-bits}
-use Rattle.blocks.proofs.Options.{test, named-true, chosen-same, chosen-valid, reach-below}
-use Rattle.blocks.proofs.Local.{waits, winner-below}
+use Rattle.blocks.proofs.Options.{test, named-true, chosen-same, reach-below}
+use Rattle.blocks.proofs.Local.{waits, winner-below, won-valid}
 
 -- One cycle: mask, registers r, inputs x, ready at the inputs t, valid and ready at the outputs v and y. In the next one the mask is mask′ and the inputs are x′.
 module _ (mask mask′ : Bool) (r : Reg) (x x′ : ℕ → Sig) (t v y : ℕ → Bool) where
@@ -102,11 +102,11 @@ module _ (mask mask′ : Bool) (r : Reg) (x x′ : ℕ → Sig) (t v y : ℕ →
       rw (s, a)
 
   -- the winner is recorded, and its input held
-  module _ (m : ℕ) (w : Waiting (merge m)) (i : ℕ) (is : winner m x (r .word) ≡ some i) (a : x i .valid ≡ true) (f : allDone 2 (r .marks) (went v y) ≡ false) where
+  module _ (m : ℕ) (cs : List ℕ) (w : Waiting (merge m cs)) (i : ℕ) (is : winner m x (r .word) ≡ some i) (a : x i .valid ≡ true) (f : allDone 2 (r .marks) (went v y) ≡ false) where
     below : i < m
     below = winner-below m x (r .word) i is
 
-    next-is : nextOf (merge m) r x t v y ≡ record { word = suc i; marks = gained 2 (r .marks) (went v y) }
+    next-is : nextOf (merge m cs) r x t v y ≡ record { word = suc i; marks = gained 2 (r .marks) (went v y) }
     next-is = rw (is, a, f)
 
     input-stays : x′ i ≡ x i
@@ -115,23 +115,23 @@ module _ (mask mask′ : Bool) (r : Reg) (x x′ : ℕ → Sig) (t v y : ℕ →
         w .holding refl i below a (w .taking i below ∙ and-false-1 (won m r x .valid && allDone 2 (r .marks) (went v y)) (named (winner m x (r .word)) (eqb i)) idle)
 
     -- at either side: 0 the data, 1 the report
-    side-stays : (j : ℕ) → j < 2 → bit j (r .marks) ≡ false → y j ≡ false → outOf (merge m) mask′ (nextOf (merge m) r x t v y) x′ j ≡ outOf (merge m) mask r x j
+    side-stays : (j : ℕ) → j < 2 → bit j (r .marks) ≡ false → y j ≡ false → outOf (merge m cs) mask′ (nextOf (merge m cs) r x t v y) x′ j ≡ outOf (merge m cs) mask r x j
     side-stays =
-        pair (λ (j : ℕ). bit j (r .marks) ≡ false → y j ≡ false → outOf (merge m) mask′ (nextOf (merge m) r x t v y) x′ j ≡ outOf (merge m) mask r x j)
+        pair (λ (j : ℕ). bit j (r .marks) ≡ false → y j ≡ false → outOf (merge m cs) mask′ (nextOf (merge m cs) r x t v y) x′ j ≡ outOf (merge m cs) mask r x j)
         (λ e q. rw (next-is, lt-ltb i m below, is, input-stays, mark-stays 2 (r .marks) 0 (omega arith) e q, e))
         (λ e q. rw (next-is, lt-ltb i m below, is, input-stays, mark-stays 2 (r .marks) 1 (omega arith) e q, e))
 
   -- a side is valid when the winner's input is and its mark is clear
-  side-valid : (m j : ℕ) → j < 2 → outOf (merge m) mask r x j .valid ≡ (won m r x .valid && not (bit j (r .marks)))
-  side-valid m = pair (λ (j : ℕ). outOf (merge m) mask r x j .valid ≡ (won m r x .valid && not (bit j (r .marks)))) refl refl
+  side-valid : (m : ℕ) (cs : List ℕ) (j : ℕ) → j < 2 → outOf (merge m cs) mask r x j .valid ≡ (won m r x .valid && not (bit j (r .marks)))
+  side-valid m cs = pair (λ (j : ℕ). outOf (merge m cs) mask r x j .valid ≡ (won m r x .valid && not (bit j (r .marks)))) refl refl
 
-  stays-merge : (m : ℕ) → Waiting (merge m) → (j : ℕ) → j < 2 → Stays (merge m) j
-  stays-merge m w j h e q =
-      let shows : (won m r x .valid && not (bit j (r .marks))) ≡ true = sym (side-valid m j h) ∙ e in
+  stays-merge : (m : ℕ) (cs : List ℕ) → Waiting (merge m cs) → (j : ℕ) → j < 2 → Stays (merge m cs) j
+  stays-merge m cs w j h e q =
+      let shows : (won m r x .valid && not (bit j (r .marks))) ≡ true = sym (side-valid m cs j h) ∙ e in
       let a : won m r x .valid ≡ true = and-1 (won m r x .valid) (not (bit j (r .marks))) shows in
       let f : bit j (r .marks) ≡ false = not-true (bit j (r .marks)) (and-2 (won m r x .valid) (not (bit j (r .marks))) shows) in
-      let at = named-true (winner m x (r .word)) (λ t. x t .valid) (sym (chosen-valid (winner m x (r .word)) x) ∙ a) in
-      side-stays m w (at .0) (at .1) (at .2) (not-all 2 (r .marks) j h f q) j h f q
+      let at = won-valid m r x a in
+      side-stays m cs w (at .0) (at .1) (at .2) (not-all 2 (r .marks) j h f q) j h f q
 
   stays-buffer : (o : Option ℕ) → Waiting (buffer o) → Stays (buffer o) 0
   stays-buffer o w e q = let n : t 0 ≡ false = w .taking 0 (omega arith) ∙ rw (e, q) in rw n
@@ -152,7 +152,7 @@ module _ (mask mask′ : Bool) (r : Reg) (x x′ : ℕ → Sig) (t v y : ℕ →
   stays (fork m) w j h = stays-fork m w j h
   stays (mux m) w j h = only (Stays (mux m)) (stays-mux m w) j h
   stays (demux m) w j h = stays-demux m w j h
-  stays (merge m) w j h = stays-merge m w j h
+  stays (merge m cs) w j h = stays-merge m cs w j h
   stays (buffer o) w j h = only (Stays (buffer o)) (stays-buffer o w) j h
   stays control w j h = only (Stays control) stays-control j h
   stays unused w j h = absurd (omega arith)

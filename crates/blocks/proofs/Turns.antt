@@ -1,20 +1,47 @@
--- Laws of a block's firing: it needs only the words that it takes, so more words waiting change nothing of what it does; and it takes only words that wait.
+-- Laws of a block's firing: it needs only the words that it takes, so more words waiting change nothing of what it does; it takes only words that wait; and a merge
+-- puts its choices on its report.
 -- Assumes nothing.
 use Prim.Native.Nat.{ℕ, zero, suc, _<_}
 use mathlib.Core.Path.{_≡_, refl, sym, ap, _∙_}
 use mathlib.Core.Logic.{_⊎_, inl, inr}
+use mathlib.Core.List.{List, [], _∷_}
 use mathlib.Core.Option.{Option, some, Option·some-injective}
 use native.Mathlib.Omega.{arith}
-use borrow.Author.Tests.{eqb-true, eq-eqb}
-use lib.Dec.{eqb}
+use borrow.Author.Tests.{eqb-true, eq-eqb, ltb-true, lt-ltb}
+use lib.Dec.{eqb, ltb}
+use lib.ListN.{getElem?}
 use Rattle.blocks.specs.Kinds.{Kind, source, sink, operator, constant, fork, mux, demux, merge, buffer, control, unused}
 use Rattle.blocks.specs.Ports.{nIn}
-use Rattle.blocks.specs.Words.{operate, reach}
-use Rattle.blocks.specs.Firing.{_then_, Turn, each, swallow, choose, turn}
-use Rattle.blocks.proofs.Options.{none-some, test, Below, then-there, reach-below}
+use Rattle.blocks.specs.Words.{operate, reach, mergeInput}
+use Rattle.blocks.specs.Firing.{_then_, Turn, each, swallow, choose, join, turn}
+use Rattle.blocks.proofs.Options.{none-some, test, Below, then-there, if-there, reach-below}
 
 same-turn : (t u : Turn) → some t ≡ some u → (i : ℕ) → u .takes i ≡ t .takes i
 same-turn t u e i = ap (λ (x : Turn). x .takes i) (sym (Option·some-injective t u e))
+
+-- a merge that fires has a choice, which is the number of an input, and a word waits there
+record Chose (m : ℕ) (cs : List ℕ) (k : ℕ) (f : ℕ → Option ℕ) (u : Turn) : Type 0 where
+  choice : ℕ
+  word : ℕ
+  is-choice : getElem? cs k ≡ some choice
+  in-range : choice < m
+  waits-there : f choice ≡ some word
+  does : some (join choice word) ≡ some u
+
+chose : (m : ℕ) (cs : List ℕ) (k : ℕ) (f : ℕ → Option ℕ) (u : Turn) → turn (merge m cs) k f ≡ some u → Chose m cs k f u
+chose m cs k f u e =
+    let s = then-there (getElem? cs k) _ u e in
+    let a = then-there _ _ u (s .2) in
+    let t = then-there (mergeInput m (s .0)) _ (a .0) (a .1) in
+    let named = if-there (ltb (s .0) m) (some (s .0)) (t .0) (t .1) in
+    record {
+      choice = s .0;
+      word = a .0;
+      is-choice = s .1;
+      in-range = ltb-true (s .0) m (named .0);
+      waits-there = ap f (Option·some-injective (s .0) (t .0) (named .1)) ∙ t .2;
+      does = a .2;
+    }
 
 -- ## A firing needs only the words that it takes
 
@@ -49,7 +76,10 @@ turn-needs (demux m) k f g u e h =
     let t = then-there (reach m (s .0)) _ u (s .2) in
     let a = then-there (f 1) _ u (t .2) in
     rw (h 0 (omega arith) (same-turn _ u (a .2) 0) (s .0) (s .1), t .1, h 1 (omega arith) (same-turn _ u (a .2) 1) (a .0) (a .1)) (a .2)
-turn-needs (merge m) k f g u e h = e
+turn-needs (merge m cs) k f g u e h =
+    let c : Chose m cs k f u = chose m cs k f u e in
+    let picked : u .takes (c .choice) ≡ 1 = same-turn (join (c .choice) (c .word)) u (c .does) (c .choice) ∙ rw (eq-eqb (c .choice) (c .choice) refl) in
+    rw (c .is-choice, lt-ltb (c .choice) m (c .in-range), h (c .choice) (c .in-range) picked (c .word) (c .waits-there)) (c .does)
 turn-needs (buffer o) k f g u e h = needs-one f g each u (λ a. refl) e (h 0 (omega arith))
 turn-needs control k f g u e h = needs-one f g each u (λ a. refl) e (h 0 (omega arith))
 turn-needs unused k f g u e h = e
@@ -83,6 +113,12 @@ mux-inputs f u s t a e h h′ (suc i) =
     (λ q. inr (same-turn (choose t a) u e (suc i) ∙ rw q, (a, ap (λ (x : ℕ). f (suc x)) (eqb-true i t q) ∙ h′)))
     (λ q. inl (same-turn (choose t a) u e (suc i) ∙ rw q))
 
+merge-inputs : (f : ℕ → Option ℕ) (u : Turn) (s a : ℕ) → some (join s a) ≡ some u → f s ≡ some a → (i : ℕ) → Takes u f i
+merge-inputs f u s a e h i =
+    test (eqb i s)
+    (λ q. inr (same-turn (join s a) u e i ∙ rw q, (a, ap f (eqb-true i s q) ∙ h)))
+    (λ q. inl (same-turn (join s a) u e i ∙ rw q))
+
 pub turn-takes : (K : Kind) (k : ℕ) (f : ℕ → Option ℕ) (u : Turn) → turn K k f ≡ some u → (i : ℕ) → i < nIn K → Takes u f i
 turn-takes (source xs) k f u e i l = absurd (omega arith)
 turn-takes sink k f u e i l = let a = then-there (f 0) _ u e in one-input f _ u (a .0) (a .2) refl (a .1) i l
@@ -102,7 +138,15 @@ turn-takes (demux m) k f u e i l =
     let t = then-there (reach m (s .0)) _ u (s .2) in
     let a = then-there (f 1) _ u (t .2) in
     two-inputs f _ u (s .0) (a .0) (a .2) refl refl (s .1) (a .1) i l
-turn-takes (merge m) k f u e i l = none-some e
+turn-takes (merge m cs) k f u e i l = let c : Chose m cs k f u = chose m cs k f u e in merge-inputs f u (c .choice) (c .word) (c .does) (c .waits-there) i
 turn-takes (buffer o) k f u e i l = let a = then-there (f 0) _ u e in one-input f _ u (a .0) (a .2) refl (a .1) i l
 turn-takes control k f u e i l = let a = then-there (f 0) _ u e in one-input f _ u (a .0) (a .2) refl (a .1) i l
 turn-takes unused k f u e i l = none-some e
+
+-- ## Firing k of a merge puts choice k, which is the number of an input, on its report
+
+pub turn-reports : (m : ℕ) (cs : List ℕ) (k : ℕ) (f : ℕ → Option ℕ) (u : Turn) → turn (merge m cs) k f ≡ some u
+    → (s : ℕ) × (getElem? cs k ≡ some s) × (s < m) × (u .gives 1 ≡ s ∷ [])
+turn-reports m cs k f u e =
+    let c : Chose m cs k f u = chose m cs k f u e in
+    (c .choice, c .is-choice, c .in-range, ap (λ (t : Turn). t .gives 1) (sym (Option·some-injective (join (c .choice) (c .word)) u (c .does))))

@@ -11,7 +11,7 @@ use lib.Dec.{ltb, eqb}
 use lib.ListN.{length, getD}
 use Rattle.blocks.specs.Folds.{one, allBelow, lowest, bit, bits}
 use Rattle.blocks.specs.Kinds.{Kind, source, sink, operator, constant, fork, mux, demux, merge, buffer, control, unused}
-use Rattle.blocks.specs.Words.{operate, reach}
+use Rattle.blocks.specs.Words.{operate, reach, mergeInput}
 use Rattle.blocks.specs.Signals.{shown, nothing, chosen, named, validAt, empty, full}
 use Rattle.blocks.specs.declared.Sig.{Sig}
 use Rattle.blocks.specs.declared.Reg.{Reg}
@@ -85,7 +85,7 @@ demuxOut s a hit = shown (s .valid && (a .valid && hit)) (a .word)
 -- the recorded winner, else the lowest-numbered valid input (a recorded number above m is out of shape, and no winner)
 abbrev pub winner : ℕ → (ℕ → Sig) → ℕ → Option ℕ
 winner m x zero = lowest (validAt x) m
-winner m x (suc t) = cond (ltb t m) (some t) none
+winner m x (suc t) = mergeInput m t
 
 -- what the winner's input shows
 abbrev pub won : ℕ → Reg → (ℕ → Sig) → Sig
@@ -149,7 +149,7 @@ outOf (constant o c) mask r x j = constantOut o c (x 0)
 outOf (fork m) mask r x j = copyOut (bit j (r .marks)) (x 0)
 outOf (mux m) mask r x j = muxOut (x 0) (chosen (reach m (x 0 .word)) (λ t. x (suc t)))
 outOf (demux m) mask r x j = demuxOut (x 0) (x 1) (named (reach m (x 0 .word)) (eqb j))
-outOf (merge m) mask r x j = mergeOut m r x j
+outOf (merge m cs) mask r x j = mergeOut m r x j
 outOf (buffer o) mask r x j = dataOut r
 outOf control mask r x j = controlOut r (x 0)
 outOf unused mask r x j = nothing
@@ -163,7 +163,7 @@ readyOf (constant o c) mask r x v y i = went v y 0
 readyOf (fork m) mask r x v y i = forkReady m (r .marks) (x 0 .valid) (went v y)
 readyOf (mux m) mask r x v y i = muxReady (reach m (x 0 .word)) (went v y 0) i
 readyOf (demux m) mask r x v y i = named (reach m (x 0 .word)) (went v y)
-readyOf (merge m) mask r x v y i = mergeReady m r x (went v y) i
+readyOf (merge m cs) mask r x v y i = mergeReady m r x (went v y) i
 readyOf (buffer o) mask r x v y i = dataReady r (y 0)
 readyOf control mask r x v y i = controlReady r
 readyOf unused mask r x v y i = false
@@ -177,7 +177,7 @@ nextOf (constant o c) r x t v y = r
 nextOf (fork m) r x t v y = record { word = r .word; marks = forkNext (t 0) (gained m (r .marks) (went v y)) }
 nextOf (mux m) r x t v y = r
 nextOf (demux m) r x t v y = r
-nextOf (merge m) r x t v y =
+nextOf (merge m cs) r x t v y =
     mergeNext r (won m r x .valid) (allDone 2 (r .marks) (went v y)) (recorded (winner m x (r .word))) (gained 2 (r .marks) (went v y))
 nextOf (buffer o) r x t v y = dataNext r (x 0) (t 0)
 nextOf control r x t v y = controlNext r (x 0) (y 0)
@@ -192,7 +192,7 @@ freshReg (constant o c) = empty
 freshReg (fork m) = empty
 freshReg (mux m) = empty
 freshReg (demux m) = empty
-freshReg (merge m) = empty
+freshReg (merge m cs) = empty
 freshReg (buffer none) = empty
 freshReg (buffer (some w)) = record { word = w; marks = 1 }
 freshReg control = empty

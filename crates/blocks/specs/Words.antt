@@ -1,4 +1,4 @@
--- The operations on words of 32 bits, and the port that a select word names (document 01, "Blocks and ports" and "One cycle").
+-- The operations on words of 32 bits, the port that a select word names, and the input that a merge's number names (document 01, "Blocks and ports" and "One cycle").
 -- Assumes nothing.
 use Prim.Native.Nat.{ℕ, zero, suc, _+_, _-_, _%_, _^_}
 use mathlib.Core.Bool.{cond}
@@ -21,3 +21,7 @@ lastOf (suc k) = some k
 -- The port, of m, that a select word names: below m the port of its own number, at or above m the last one. The equations and the queue machine both read it here.
 unfoldable pub reach : ℕ → ℕ → Option ℕ
 reach m s = cond (ltb s m) (some s) (lastOf m)
+
+-- The input, of m, of a merge that a number names: in a cycle the recorded winner less 1, in the queue machine a choice. At or above m there is none.
+abbrev pub mergeInput : ℕ → ℕ → Option ℕ
+mergeInput m t = cond (ltb t m) (some t) none

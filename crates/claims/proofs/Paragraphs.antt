@@ -34,7 +34,7 @@ use Rattle.cycles.proofs.Solution.{solves}
 use Rattle.cycles.proofs.States.{regs-of}
 use Rattle.cycles.proofs.Steps.{step-worked}
 use Rattle.queue.specs.Claims.{IsAccepted}
-use Rattle.queue.proofs.Cycle.{PortSignals, Works}
+use Rattle.queue.proofs.Cycle.{PortSignals, Works, less-one}
 use Rattle.queue.proofs.Circuit.{cycles}
 use Rattle.sim.specs.Calls.{stepOf}
 use Rattle.claims.specs.Paragraphs.{
@@ -56,9 +56,6 @@ use Rattle.claims.proofs.Theorems.{refusal-is}
 
 abbrev portsOf : BlockCycle → PortSignals
 portsOf c = record { inSig = c .ins; inR = c .insReady; outSig = c .outs; outR = c .outsReady }
-
-less-one : (i : ℕ) → suc i - 1 ≡ i
-less-one i = omega arith
 
 module _ (mask : Bool) (c : BlockCycle) where
   -- the block's equations hold
@@ -129,12 +126,12 @@ module _ (mask : Bool) (c : BlockCycle) where
   unfolding allBelow
   both-done = refl
 
-  merging : (m : ℕ) → Equations (merge m) → Merging c m
-  merging m s = record {
+  merging : (m : ℕ) (cs : List ℕ) → Equations (merge m cs) → Merging c m
+  merging m cs s = record {
     decides = λ z i h v first. (rw z (lowest-found (validAt (c .ins)) m i h v first), v);
     if-any = λ z idle. pair (λ (j : ℕ). c .outs j .valid ≡ false)
-        (valid-of (merge m) s 0 (omega arith) ∙ rw (z, lowest-none (validAt (c .ins)) m idle))
-        (valid-of (merge m) s 1 (omega arith) ∙ rw (z, lowest-none (validAt (c .ins)) m idle));
+        (valid-of (merge m cs) s 0 (omega arith) ∙ rw (z, lowest-none (validAt (c .ins)) m idle))
+        (valid-of (merge m cs) s 1 (omega arith) ∙ rw (z, lowest-none (validAt (c .ins)) m idle));
     appears = λ i w. (λ e. s .showing 0 (omega arith) ∙ rw (w .0, w .1, e), λ e. s .showing 1 (omega arith) ∙ rw (w .0, w .1, e, less-one i));
     fired = λ i w a b.
         let all : allDone 2 (c .before .marks) (given c) ≡ true = both-done ∙ rw (a, b) in
@@ -147,8 +144,8 @@ module _ (mask : Bool) (c : BlockCycle) where
         );
     continues = λ i h z v. (rw (z, lt-ltb i m h), v);
     suppresses = pair (λ (j : ℕ). bit j (c .before .marks) ≡ true → c .outs j .valid ≡ false)
-        (λ e. valid-of (merge m) s 0 (omega arith) ∙ rw e (and-false-2 (won m (c .before) (c .ins) .valid) false refl))
-        (λ e. valid-of (merge m) s 1 (omega arith) ∙ rw e (and-false-2 (won m (c .before) (c .ins) .valid) false refl));
+        (λ e. valid-of (merge m cs) s 0 (omega arith) ∙ rw e (and-false-2 (won m (c .before) (c .ins) .valid) false refl))
+        (λ e. valid-of (merge m cs) s 1 (omega arith) ∙ rw e (and-false-2 (won m (c .before) (c .ins) .valid) false refl));
   }
 
   data-buffer : (o : Option ℕ) → Equations (buffer o) → DataBuffer c
@@ -186,7 +183,7 @@ module _ (mask : Bool) (c : BlockCycle) where
   paragraph (fork m) s = forking m s
   paragraph (mux m) s = multiplexer m s
   paragraph (demux m) s = demultiplexer m s
-  paragraph (merge m) s = merging m s
+  paragraph (merge m cs) s = merging m cs s
   paragraph (buffer o) s = data-buffer o s
   paragraph control s = control-buffer s
   paragraph unused s = tt

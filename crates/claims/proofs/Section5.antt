@@ -1,7 +1,7 @@
 -- The claims of specs/Section5.antt, proved: each is a law of crates queue and cycles at `accepted net` (proofs/Theorems.antt carries lists of steps over).
 -- Assumes nothing.
 use Prim.Native.Nat.{ℕ, _<_}
-use mathlib.Core.Path.{_≡_, refl, sym, ap, _∙_, subst, subst₂, fun-ext}
+use mathlib.Core.Path.{_≡_, refl, sym, ap, ap₂, _∙_, subst, subst₂, fun-ext}
 use mathlib.Core.Bool.{Bool, true, false, cond, _&&_}
 use mathlib.Core.List.{List, [], _∷_, _++_, IsPrefix}
 use native.Mathlib.Omega.{arith}
@@ -29,18 +29,18 @@ use Rattle.cycles.proofs.Joins.{ins-are, inp-range}
 use Rattle.cycles.proofs.Steps.{step-worked, mark-at}
 use Rattle.cycles.proofs.Sustained.{keeps-stepped}
 use Rattle.cycles.proofs.Emptying.{emptied-stepped}
-use Rattle.queue.specs.Machine.{put}
-use Rattle.queue.specs.Delivered.{Input, over, offered, lastFrom, delivered}
+use Rattle.queue.specs.Machine.{machineOf, putBy}
+use Rattle.queue.specs.Delivered.{Input, over, offered, delivered, withNext, report, choices}
 use Rattle.queue.specs.History.{WholeFirings}
 use Rattle.queue.specs.Claims.{IsAccepted, anyBuffer}
-use Rattle.queue.proofs.Words.{prefix-trans}
-use Rattle.queue.proofs.Guarantee.{offers-next as machine-offers-next, only-buffers-hold as machine-only-buffers-hold}
+use Rattle.queue.proofs.Waits.{waits, report-in, choices-are}
+use Rattle.queue.proofs.Guarantee.{offers-ever, offers-next as machine-offers-next, only-buffers-hold as machine-only-buffers-hold}
 use Rattle.handshake.specs.Table.{Column, columnAt, tableFrom, offeredFirst, Protocol}
-use Rattle.handshake.proofs.Protocol.{table-protocol, table-begins, over-same}
+use Rattle.handshake.proofs.Protocol.{table-protocol, ever-is}
 use Rattle.sim.specs.Calls.{freshOf, stepOf}
-use Rattle.claims.specs.Promised.{stepIn}
-use Rattle.claims.specs.Section5.{StaysOffered, OffersNext, tableOf, DeliveredOffered, OffersBegin, OnlyBuffersHold, NothingLeft}
-use Rattle.claims.proofs.Theorems.{same-from, same-last, same-delivered, refusal-is}
+use Rattle.claims.specs.Promised.{stepIn, deliveredOf, endStateOf}
+use Rattle.claims.specs.Section5.{StaysOffered, withNextOf, OffersNext, tableOf, DeliveredOffered, everOffered, OffersBegin, ChoicesOffered, OnlyBuffersHold, NothingLeft}
+use Rattle.claims.proofs.Theorems.{same-from, same-delivered, same-end, same-chosen, refusal-is}
 
 -- ## The delivery mark of a step that is not refused
 
@@ -78,14 +78,15 @@ stays-offered net acc s words ends offer ready e c h v q offer′ ready′ =
     (not-ready (g .shows c .valid) (g .ready c) v (sym (mark-of net acc s words ends offer ready z c h) ∙ q))
 
 pub offers-next : OffersNext
-unfolding freshOf
-offers-next net words ends acc free masks offer ready =
-    let g = machine-offers-next (accepted net) net words ends acc (accepted-true net acc) free masks offer ready in (
+offers-next net words ends acc masks offer ready =
+    let g = machine-offers-next (accepted net) net words ends acc (accepted-true net acc) masks offer ready in
+    let same : (c : ℕ) → withNext (accepted net) net words ends masks offer ready c ≡ withNextOf net words ends masks offer ready c =
+    λ c. ap₂ (λ (l : List ℕ) (s : State). l ++ offered (signalsOf net words ends offer ready (regsOf s)) c)
+    (same-delivered net words ends masks c) (same-end net words ends masks) in (
       g .0,
       g .1,
       λ c h.
-          subst₂ (λ (l : List ℕ) (s : State). IsPrefix (l ++ offered (signalsOf net words ends offer ready (regsOf s)) c) (put net words ends (g .0) c))
-          (same-delivered net words ends masks c) (same-last net (freshOf net .state) (over words ends masks)) (g .2 c h),
+          subst₂ (λ (l : List ℕ) (chosen : ℕ → List ℕ). IsPrefix l (putBy net words ends chosen (g .0) c)) (same c) (fun-ext (λ b. same (report net b))) (g .2 c h),
     )
 
 -- ## The table of a channel
@@ -101,30 +102,43 @@ delivered-offered net words ends acc s steps same c h =
     subst₂ Protocol (same-table net s steps c) (same-from net s steps c)
     (table-protocol (accepted net) net words ends (accepted-true net acc) c h steps same s)
 
-pub offers-begin : OffersBegin
+-- the words ever offered are the words delivered, and then the one that waits
+ever-same : (net : Net) (words ends : List ℕ) → accepted net ≡ true → (masks : List (ℕ × ℕ)) (c : ℕ) → c < net .channels
+    → delivered (accepted net) net words ends masks c ++ waits (accepted net) net words ends masks c ≡ everOffered net words ends masks c
 unfolding freshOf
-offers-begin net words ends acc free masks =
-    let f = machine-offers-next (accepted net) net words ends acc (accepted-true net acc) free masks 0 0 in (
+ever-same net words ends acc masks c h =
+    sym (ever-is (accepted net) net words ends (accepted-true net acc) masks c h)
+    ∙ ap (λ (l : List Column). offeredFirst false l) (same-table net (freshOf net .state) (over words ends masks) c)
+
+pub offers-begin : OffersBegin
+offers-begin net words ends acc masks =
+    let f = offers-ever (accepted net) net words ends acc (accepted-true net acc) masks in (
       f .0,
       f .1,
       λ c h.
-          let steps : List Input = over words ends masks in
-          let s : State = freshOf net .state in
-          let seen : List ℕ = delivered (accepted net) net words ends masks c ++ offered (signalsOf net words ends 0 0 (regsOf (lastFrom (accepted net) net s steps))) c in
-          subst (λ (l : List Column). IsPrefix (offeredFirst false l) (put net words ends (f .0) c)) (same-table net s steps c)
-          (prefix-trans (offeredFirst false (tableFrom (accepted net) net s steps c)) seen (put net words ends (f .0) c)
-          (table-begins (accepted net) net words ends (accepted-true net acc) c h steps (over-same net words ends masks) s 0 0) (f .2 c h)),
+          subst₂ (λ (l : List ℕ) (chosen : ℕ → List ℕ). IsPrefix l (putBy net words ends chosen (f .0) c)) (ever-same net words ends acc masks c h)
+          (fun-ext (same-chosen net words ends masks)) (f .2 c h),
     )
+
+pub choices-offered : ChoicesOffered
+choices-offered net words ends acc masks b hb e =
+    let ok : IsAccepted net = accepted-true net acc in
+    sym (same-chosen net words ends masks b) ∙ choices-are net words ends ok (accepted net) acc masks b hb e
+    ∙ ever-same net words ends acc masks (report net b) (report-in net words ends ok b hb e)
 
 -- ## Only buffers hold words
 
 pub only-buffers-hold : OnlyBuffersHold
-unfolding freshOf
-only-buffers-hold net words ends acc free masks b hb =
-    subst₂
-    (λ (D : ℕ → List ℕ) (s : State). WholeFirings (kindAt net words ends b) (regsOf s b) (λ i. D (viewOf net words ends .inp b i)) (λ j. D (viewOf net words ends .out b j)))
-    (fun-ext (same-delivered net words ends masks)) (same-last net (freshOf net .state) (over words ends masks))
-    (machine-only-buffers-hold (accepted net) net words ends acc (accepted-true net acc) free masks b hb)
+only-buffers-hold net words ends acc masks b hb =
+    subst
+    (λ (chosen : ℕ → List ℕ). WholeFirings (machineOf net words ends chosen .kind b) (regsOf (endStateOf net words ends masks) b)
+    (λ i. deliveredOf net words ends masks (viewOf net words ends .inp b i)) (λ j. deliveredOf net words ends masks (viewOf net words ends .out b j)))
+    (fun-ext (same-chosen net words ends masks))
+    (subst₂
+    (λ (D : ℕ → List ℕ) (s : State). WholeFirings (machineOf net words ends (choices (accepted net) net words ends masks) .kind b) (regsOf s b)
+    (λ i. D (viewOf net words ends .inp b i)) (λ j. D (viewOf net words ends .out b j)))
+    (fun-ext (same-delivered net words ends masks)) (same-end net words ends masks)
+    (machine-only-buffers-hold (accepted net) net words ends acc (accepted-true net acc) masks b hb))
 
 -- a kind that is no buffer by its number is none by its name
 none-stored : (m value : ℕ) (xs : List ℕ) (k : ℕ) → anyBuffer k ≡ false → storing (kindOf k m value xs) ≡ false

@@ -2,10 +2,10 @@
 -- there; lists of steps are carried over by induction.
 -- Assumes nothing.
 use Prim.Native.Nat.{ℕ, _+_}
-use mathlib.Core.Path.{_≡_, refl, sym, ap, _∙_, subst, subst₂}
+use mathlib.Core.Path.{_≡_, refl, sym, ap, ap₂, _∙_, subst, subst₂, fun-ext}
 use mathlib.Core.Bool.{Bool, true, false, cond, not}
 use mathlib.Core.Logic.{_≢_, _↔_}
-use mathlib.Core.List.{List, [], _∷_, _++_, IsPrefix}
+use mathlib.Core.List.{List, [], _∷_, _++_, IsPrefix, List·Memᴰ}
 use native.Mathlib.Omega.{arith}
 use borrow.Author.Tests.{eqb-true, eqb-false}
 use lib.Dec.{eqb, ltb}
@@ -23,20 +23,35 @@ use Rattle.cycles.specs.declared.State.{State}
 use Rattle.cycles.specs.declared.Stepped.{Stepped}
 use Rattle.cycles.proofs.States.{fresh-shape}
 use Rattle.cycles.proofs.Steps.{step-refused, step-worked, count-rises as cycle-count, shape-kept as cycle-shape}
-use Rattle.queue.specs.Machine.{put}
-use Rattle.queue.specs.Delivered.{Input, marked, over, deliveredFrom, lastFrom, delivered}
+use Rattle.queue.specs.Machine.{putBy, put}
+use Rattle.queue.specs.Delivered.{Input, marked, over, deliveredFrom, lastFrom, delivered, endState, report, pending, choices}
 use Rattle.queue.specs.History.{holds}
 use Rattle.queue.specs.Claims.{Comparable}
-use Rattle.queue.proofs.Guarantee.{guaranteed as machine-guaranteed, comparable as machine-comparable, same-words as machine-same-words, buffer-law as machine-buffer-law}
+use Rattle.queue.proofs.Guarantee.{
+  guaranteed as machine-guaranteed,
+  comparable as machine-comparable,
+  same-words as machine-same-words,
+  guaranteed-merges as machine-guaranteed-merges,
+  comparable-choices as machine-comparable-choices,
+  same-choices as machine-same-choices,
+  choices-in-range as machine-choices-in-range,
+  buffer-law as machine-buffer-law,
+}
 use Rattle.sim.specs.Calls.{freshOf, stepOf}
 use Rattle.claims.specs.Promised.{
   stepIn,
   wordsFrom,
   stateFrom,
   deliveredOf,
+  endStateOf,
   Guaranteed,
   FiringsComparable,
   StepsComparable,
+  choicesOf,
+  GuaranteedMerges,
+  ChoicesComparable,
+  ChoicesDecide,
+  ChoicesInRange,
   BuffersKeep,
   AcceptedIs,
   Earns12,
@@ -67,6 +82,14 @@ module _ (net : Net) where
   same-delivered words ends masks c =
       ap (λ (s : State). deliveredFrom (accepted net) net s (over words ends masks) c) fresh-is ∙ same-from (freshOf net .state) (over words ends masks) c
 
+  pub same-end : (words ends : List ℕ) (masks : List (ℕ × ℕ)) → endState (accepted net) net words ends masks ≡ endStateOf net words ends masks
+  same-end words ends masks =
+      ap (λ (s : State). lastFrom (accepted net) net s (over words ends masks)) fresh-is ∙ same-last (freshOf net .state) (over words ends masks)
+
+  pub same-chosen : (words ends : List ℕ) (masks : List (ℕ × ℕ)) (b : ℕ) → choices (accepted net) net words ends masks b ≡ choicesOf net words ends masks b
+  same-chosen words ends masks b =
+      ap₂ (λ (l : List ℕ) (s : State). l ++ pending (regsOf s b)) (same-delivered words ends masks (report net b)) (same-end words ends masks)
+
 -- ## The word guarantee
 
 pub guaranteed : Guaranteed
@@ -81,6 +104,32 @@ pub same-words : StepsComparable
 same-words net words ends acc free masks others c h =
     subst₂ Comparable (same-delivered net words ends masks c) (same-delivered net words ends others c)
     (machine-same-words (accepted net) net words ends (accepted-true net acc) free masks others c h)
+
+-- ## With merges
+
+pub guaranteed-merges : GuaranteedMerges
+guaranteed-merges net words ends acc masks =
+    let g = machine-guaranteed-merges (accepted net) net words ends (accepted-true net acc) masks in (
+      g .0,
+      g .1,
+      λ c h.
+          subst₂ (λ (l : List ℕ) (chosen : ℕ → List ℕ). IsPrefix l (putBy net words ends chosen (g .0) c)) (same-delivered net words ends masks c)
+          (fun-ext (same-chosen net words ends masks)) (g .2 c h),
+    )
+
+pub comparable-choices : ChoicesComparable
+comparable-choices net words ends fixed acc = machine-comparable-choices net words ends fixed (accepted-true net acc)
+
+pub same-choices : ChoicesDecide
+same-choices net words ends acc masks others h c hc =
+    subst₂ Comparable (same-delivered net words ends masks c) (same-delivered net words ends others c)
+    (machine-same-choices (accepted net) net words ends (accepted-true net acc) masks others
+    (λ b hb e. subst₂ Comparable (sym (same-chosen net words ends masks b)) (sym (same-chosen net words ends others b)) (h b hb e)) c hc)
+
+pub choices-in-range : ChoicesInRange
+choices-in-range net words ends acc masks b hb e t i =
+    machine-choices-in-range (accepted net) net words ends acc (accepted-true net acc) masks b hb e t
+    (subst (λ (l : List ℕ). List·Memᴰ t l) (sym (same-chosen net words ends masks b)) i)
 
 -- ## Buffers
 

@@ -141,7 +141,7 @@ module _ (c : BlockCycle) where
   Paragraph (fork m) = Forking m
   Paragraph (mux m) = Multiplexer m
   Paragraph (demux m) = Demultiplexer m
-  Paragraph (merge m) = Merging m
+  Paragraph (merge m cs) = Merging m
   Paragraph (buffer o) = DataBuffer
   Paragraph control = ControlBuffer
   Paragraph unused = Unit {0}

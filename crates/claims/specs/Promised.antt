@@ -1,5 +1,5 @@
 -- The promises over lists of calls, written with `freshOf` and `stepOf`: the contracts of `sim::step::fresh` and `sim::step::step` say that these calls answer exactly so.
--- proofs/Theorems.antt proves each one. `put`, the words that firings of the queue machine put, is crate queue's.
+-- proofs/Theorems.antt proves each one. `put` and `putBy`, the words that firings of the queue machine put, are crate queue's.
 -- Assumes nothing.
 use Prim.Native.Nat.{ℕ, _+_, _<_}
 use mathlib.Core.Path.{_≡_}
@@ -16,8 +16,8 @@ use Rattle.nets.proofs.Decided.{accepted}
 use Rattle.cycles.specs.State.{regsOf, plainKind, shapeOk}
 use Rattle.cycles.specs.declared.State.{State}
 use Rattle.cycles.specs.declared.Stepped.{Stepped}
-use Rattle.queue.specs.Machine.{put}
-use Rattle.queue.specs.Delivered.{Input, marked, over}
+use Rattle.queue.specs.Machine.{putBy, put}
+use Rattle.queue.specs.Delivered.{Input, marked, over, report, pending}
 use Rattle.queue.specs.History.{holds}
 use Rattle.queue.specs.Claims.{MergeFree, Comparable, anyBuffer}
 use Rattle.sim.specs.Calls.{freshOf, stepOf}
@@ -43,6 +43,9 @@ stateFrom net s (n ∷ ns) = stateFrom net (stepIn net s n .state) ns
 abbrev pub deliveredOf : Net → List ℕ → List ℕ → List (ℕ × ℕ) → ℕ → List ℕ
 deliveredOf net words ends masks c = wordsFrom net (freshOf net .state) (over words ends masks) c
 
+abbrev pub endStateOf : Net → List ℕ → List ℕ → List (ℕ × ℕ) → State
+endStateOf net words ends masks = stateFrom net (freshOf net .state) (over words ends masks)
+
 -- ## The word guarantee
 
 -- "one claim about the whole list of steps, not one for each step": for every list of steps there is ONE list F of firings of the net's blocks that puts, on every
@@ -62,6 +65,41 @@ abbrev pub StepsComparable : Type 0
 StepsComparable =
     (net : Net) (words ends : List ℕ) → accepted net ≡ true → MergeFree net → (masks others : List (ℕ × ℕ)) (c : ℕ) → c < net .channels
     → Comparable (deliveredOf net words ends masks c) (deliveredOf net words ends others c)
+
+-- ## The word guarantee of nets with merges (request 2)
+
+-- "A merge's choices are the words delivered on its report channel, then the recorded winner less 1, if there is one and its report hasn't gone": block b's, over the
+-- whole list of steps.
+abbrev pub choicesOf : Net → List ℕ → List ℕ → List (ℕ × ℕ) → ℕ → List ℕ
+choicesOf net words ends masks b = deliveredOf net words ends masks (report net b) ++ pending (regsOf (endStateOf net words ends masks) b)
+
+-- "For every list of steps as in demand 3, but with any accepted net, some firings over those streams with the following choices put on every channel a list
+-- beginning with the delivered words": as `Guaranteed`, with these choices and without MergeFree.
+abbrev pub GuaranteedMerges : Type 0
+GuaranteedMerges =
+    (net : Net) (words ends : List ℕ) → accepted net ≡ true → (masks : List (ℕ × ℕ))
+    → (F : List ℕ) × ((b : ℕ) → List·Memᴰ b F → b < net .size)
+    × ((c : ℕ) → c < net .channels → IsPrefix (deliveredOf net words ends masks c) (putBy net words ends (choicesOf net words ends masks) F c))
+
+-- "With the choices fixed, of two lists of firings one again puts, on each channel taken alone, a beginning of what the other puts": whatever the choices are.
+abbrev pub ChoicesComparable : Type 0
+ChoicesComparable =
+    (net : Net) (words ends : List ℕ) (fixed : ℕ → List ℕ) → accepted net ≡ true → (F G : List ℕ) (c : ℕ) → c < net .channels
+    → Comparable (putBy net words ends fixed F c) (putBy net words ends fixed G c)
+
+-- So two lists of steps over one set of streams differ in a word only where their choices do: where at every merge one's choices begin the other's, one delivers, on
+-- each channel, a beginning of what the other delivers.
+abbrev pub ChoicesDecide : Type 0
+ChoicesDecide =
+    (net : Net) (words ends : List ℕ) → accepted net ≡ true → (masks others : List (ℕ × ℕ))
+    → ((b : ℕ) → b < net .size → blockAt net b .kind ≡ 7 → Comparable (choicesOf net words ends masks b) (choicesOf net words ends others b))
+    → (c : ℕ) → c < net .channels → Comparable (deliveredOf net words ends masks c) (deliveredOf net words ends others c)
+
+-- Every choice that steps make is the number of an input.
+abbrev pub ChoicesInRange : Type 0
+ChoicesInRange =
+    (net : Net) (words ends : List ℕ) → accepted net ≡ true → (masks : List (ℕ × ℕ)) (b : ℕ) → b < net .size → blockAt net b .kind ≡ 7
+    → (t : ℕ) → List·Memᴰ t (choicesOf net words ends masks b) → t < blockAt net b .m
 
 -- ## Buffers
 

@@ -1,3 +1,4 @@
 -- The protocol on every channel, and tables worked out.
 pub mod Protocol
 pub mod Tables
+pub mod Chosen

@@ -5,7 +5,7 @@
 use Prim.Native.Nat.{ℕ, zero, suc, _<_}
 use mathlib.Core.Path.{_≡_, refl, sym, ap, _∙_, subst₂}
 use mathlib.Core.Bool.{Bool, true, false, cond, not, _&&_}
-use mathlib.Core.List.{List, [], _∷_, _++_, append-nil, append-assoc, IsPrefix, List·Memᴰ·head, List·Memᴰ·tail}
+use mathlib.Core.List.{List, [], _∷_, _++_, append-nil, append-assoc, List·Memᴰ·head, List·Memᴰ·tail}
 use mathlib.Core.Option.{some}
 use native.Mathlib.Omega.{arith}
 use borrow.Author.Tests.{ne-eqb}
@@ -18,15 +18,15 @@ use Rattle.nets.specs.declared.Net.{Net}
 use Rattle.nets.proofs.Nets.{channels-high}
 use Rattle.cycles.specs.Cycle.{Signals, signalsOf}
 use Rattle.cycles.specs.State.{regsOf}
-use Rattle.cycles.specs.Step.{refusalBy, stateAfter}
+use Rattle.cycles.specs.Step.{refusalBy, stateAfter, stepBy, freshBy}
 use Rattle.cycles.specs.declared.State.{State}
 use Rattle.cycles.specs.declared.Stepped.{Stepped}
 use Rattle.cycles.proofs.Steps.{step-cases}
 use Rattle.cycles.proofs.Sustained.{keeps-after}
-use Rattle.queue.specs.Delivered.{Input, marked, deliveredFrom, lastFrom, over, offered}
+use Rattle.queue.specs.Delivered.{Input, marked, deliveredFrom, over, delivered}
 use Rattle.queue.specs.Claims.{IsAccepted}
-use Rattle.queue.proofs.Words.{prefix-refl}
 use Rattle.queue.proofs.Marks.{marked-refused, marked-worked}
+use Rattle.queue.proofs.Waits.{untaken, waitsFrom, waits}
 use Rattle.handshake.specs.Table.{Column, columnOf, columnAt, tableFrom, Over, delivers, observed, StaysUntilReady, offeredFirst, stillOffered, Protocol}
 
 -- ## Columns that follow each other
@@ -75,19 +75,11 @@ stays-until (x ∷ t) h (suc p) (suc q) a b l e f v none-yet =
 abbrev nothing-yet : Column
 nothing-yet = record { word = 0; valid = false; ready = false }
 
-abbrev lastColumn : Column → List Column → Column
-lastColumn a [] = a
-lastColumn a (b ∷ t) = lastColumn b t
-
 -- ## What is offered is what is delivered, and what still waits
 
 -- the word that waits after column a
 abbrev left : Column → List ℕ
 left a = cond (a .valid && not (a .ready)) (a .word ∷ []) []
-
-still-last : (t : List Column) (a : Column) → stillOffered (left a) t ≡ left (lastColumn a t)
-still-last [] a = refl
-still-last (b ∷ t) a = still-last t b
 
 -- one column: what waited before it, if anything, is its word
 module _ (a b : Column) (h : Next a b) where
@@ -159,69 +151,67 @@ module _ (ok : Bool) (net : Net) (words ends : List ℕ) (acc : IsAccepted net) 
       let e = keeps-after net acc words ends offer ready offer′ ready′ s c hc v y in
       (ap (λ (z : Sig). z .valid) e ∙ v, ap (λ (z : Sig). z .word) e)
 
-  -- a table that goes on from column a, up to state s
-  abbrev Along : Column → List Column → State → Type 0
-  Along a t s = Chain a t × Follows (lastColumn a t) s
-
   -- all the steps of a list, from every state and after every column that it follows
   abbrev GoesAlong : List Input → Type 0
-  GoesAlong ns = (a : Column) (s : State) → Follows a s → Along a (tableFrom ok net s ns c) (lastFrom ok net s ns)
+  GoesAlong ns = (a : Column) (s : State) → Follows a s → Chain a (tableFrom ok net s ns c)
 
   -- a step over the streams, and then the steps
   worked : (s : State) (offer ready : ℕ) (ns : List Input) → GoesAlong ns → (a : Column) → Follows a s
-      → Along a (columnOf (cycle s offer ready) c ∷ tableFrom ok net (after s offer ready) ns c) (lastFrom ok net (after s offer ready) ns)
-  worked s offer ready ns rec a h = let r = rec (columnOf (cycle s offer ready) c) (after s offer ready) (follows-after s offer ready) in ((h offer ready, r .0), r .1)
+      → Chain a (columnOf (cycle s offer ready) c ∷ tableFrom ok net (after s offer ready) ns c)
+  worked s offer ready ns rec a h = (h offer ready, rec (columnOf (cycle s offer ready) c) (after s offer ready) (follows-after s offer ready))
 
   along : (ns : List Input) → Over net words ends ns → GoesAlong ns
-  along [] same a s h = (tt, h)
+  along [] same a s h = tt
   along (n ∷ ns) same a s h = step (λ a s h. along ns (λ m i. same m (List·Memᴰ·tail i)) a s h)
     where
-      step : GoesAlong ns → Along a (tableFrom ok net s (n ∷ ns) c) (lastFrom ok net s (n ∷ ns))
+      step : GoesAlong ns → Chain a (tableFrom ok net s (n ∷ ns) c)
       step rec =
-          step-cases ok net s (n .words) (n .ends) (n .offer) (n .ready) (λ t. Along a (goes ok net c s n ns t) (lastFrom ok net (t .state) ns))
+          step-cases ok net s (n .words) (n .ends) (n .offer) (n .ready) (λ t. Chain a (goes ok net c s n ns t))
           (λ z. rw (ne-eqb (refusalBy ok net s (n .words) (n .ends) false 1) 0 z) (rec a s h))
           (λ p. let e = same n (List·Memᴰ·head refl) (p .fitting) in
           let g : List ℕ → List ℕ → Signals = λ ws es. signalsOf net ws es (n .offer) (n .ready) (regsOf s) in
-          subst₂ (λ (ws es : List ℕ). Along a (columnOf (g ws es) c ∷ tableFrom ok net (stateAfter net s ws es (g ws es)) ns c) (lastFrom ok net (stateAfter net s ws es (g ws es)) ns))
+          subst₂ (λ (ws es : List ℕ). Chain a (columnOf (g ws es) c ∷ tableFrom ok net (stateAfter net s ws es (g ws es)) ns c))
           (sym (e .0)) (sym (e .1)) (worked s (n .offer) (n .ready) ns rec a h))
 
   module _ (ns : List Input) (same : Over net words ends ns) (s : State) where
     abbrev table : List Column
     table = tableFrom ok net s ns c
 
-    from-nothing : Along nothing-yet table (lastFrom ok net s ns)
+    from-nothing : Chain nothing-yet table
     from-nothing = along ns same nothing-yet s (λ offer ready v. clash v refl)
 
     pub table-protocol : Protocol table (deliveredFrom ok net s ns c)
     table-protocol =
         let e : observed table ≡ deliveredFrom ok net s ns c = table-observed ok net acc c hc ns s in
         record {
-          stays = stays-until table (rest nothing-yet table (from-nothing .0));
+          stays = stays-until table (rest nothing-yet table from-nothing);
           observes = e;
-          offers = offered-are table nothing-yet (from-nothing .0) ∙ ap (λ (l : List ℕ). l ++ stillOffered [] table) e;
+          offers = offered-are table nothing-yet from-nothing ∙ ap (λ (l : List ℕ). l ++ stillOffered [] table) e;
         }
-
-    -- what still waits is offered in the next cycle, whatever its masks
-    still-begins : (offer ready : ℕ) → IsPrefix (stillOffered [] table) (offered (cycle (lastFrom ok net s ns) offer ready) c)
-    still-begins offer ready = rw (still-last table nothing-yet) (go (last-one .valid) (last-one .ready) refl refl)
-      where
-        last-one : Column
-        last-one = lastColumn nothing-yet table
-
-        go : (v y : Bool) → last-one .valid ≡ v → last-one .ready ≡ y → IsPrefix (cond (v && not y) (last-one .word ∷ []) []) (offered (cycle (lastFrom ok net s ns) offer ready) c)
-        go true false p q = let n = from-nothing .1 offer ready p q in rw (n .0, n .1) (prefix-refl (last-one .word ∷ []))
-        go true true p q = (offered (cycle (lastFrom ok net s ns) offer ready) c, refl)
-        go false y p q = (offered (cycle (lastFrom ok net s ns) offer ready) c, refl)
-
-    -- so the words offered begin what is delivered and then offered
-    pub table-begins : (offer ready : ℕ) → IsPrefix (offeredFirst false table) (deliveredFrom ok net s ns c ++ offered (cycle (lastFrom ok net s ns) offer ready) c)
-    table-begins offer ready =
-        let p = still-begins offer ready in
-        rw (table-protocol .offers)
-        (p .0, append-assoc (deliveredFrom ok net s ns c) (stillOffered [] table) (p .0) ∙ ap (λ (l : List ℕ). deliveredFrom ok net s ns c ++ l) (p .1))
 
 -- the steps of one list of masks are over one set of streams
 pub over-same : (net : Net) (words ends : List ℕ) (ms : List (ℕ × ℕ)) → Over net words ends (over words ends ms)
 over-same net words ends [] n m f = elim m [ ]
 over-same net words ends (k ∷ ms) n (List·Memᴰ·head e) f = (ap (λ (x : Input). x .words) e, ap (λ (x : Input). x .ends) e)
 over-same net words ends (k ∷ ms) n (List·Memᴰ·tail m) f = over-same net words ends ms n m f
+
+-- what still waits in the table of a list of masks is what waits after its steps
+pub still-waits : (ok : Bool) (net : Net) (words ends : List ℕ) (c : ℕ) (ms : List (ℕ × ℕ)) (W : ℕ → List ℕ) (s : State)
+    → stillOffered (W c) (tableFrom ok net s (over words ends ms) c) ≡ waitsFrom ok net words ends W s ms c
+still-waits ok net words ends c [] W s = refl
+still-waits ok net words ends c (m ∷ ms) W s =
+    let t : Stepped = stepBy ok net s words ends (m .0) (m .1) in
+    step (eqb (t .refusal) 0) (t .state) (λ W. still-waits ok net words ends c ms W (t .state))
+  where
+    step : (q : Bool) (s′ : State) → ((W : ℕ → List ℕ) → stillOffered (W c) (tableFrom ok net s′ (over words ends ms) c) ≡ waitsFrom ok net words ends W s′ ms c)
+        → let g : Signals = signalsOf net words ends (m .0) (m .1) (regsOf s) in
+        stillOffered (W c) (cond q (columnOf g c ∷ []) [] ++ tableFrom ok net s′ (over words ends ms) c) ≡ waitsFrom ok net words ends (cond q (untaken g) W) s′ ms c
+    step true s′ rec = rec (untaken (signalsOf net words ends (m .0) (m .1) (regsOf s)))
+    step false s′ rec = rec W
+
+-- so the words ever offered are the words delivered and then the one that waits
+pub ever-is : (ok : Bool) (net : Net) (words ends : List ℕ) → IsAccepted net → (masks : List (ℕ × ℕ)) (c : ℕ) → c < net .channels
+    → offeredFirst false (tableFrom ok net (freshBy ok net) (over words ends masks) c) ≡ delivered ok net words ends masks c ++ waits ok net words ends masks c
+ever-is ok net words ends acc masks c hc =
+    table-protocol ok net words ends acc c hc (over words ends masks) (over-same net words ends masks) (freshBy ok net) .offers
+    ∙ ap (λ (l : List ℕ). delivered ok net words ends masks c ++ l) (still-waits ok net words ends c masks (λ c. []) (freshBy ok net))

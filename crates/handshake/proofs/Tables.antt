@@ -16,21 +16,21 @@ use Rattle.nets.specs.Net.{blockZero, fieldsOk, kindCount, portCount, connected
 use Rattle.nets.specs.declared.Net.{Net}
 use Rattle.nets.proofs.Accepting.{rises, acceptable, accepted-test}
 use Rattle.cycles.specs.Streams.{endsFit}
-use Rattle.cycles.specs.Wires.{viewOf, kindAt}
+use Rattle.cycles.specs.Wires.{viewOf}
 use Rattle.cycles.specs.Cycle.{Signals, signals, signalsOf}
 use Rattle.cycles.specs.State.{tab, regsOf, shapeOk}
 use Rattle.cycles.specs.Step.{refusalBy, stateAfter, stepBy, freshBy}
 use Rattle.cycles.specs.declared.State.{State}
 use Rattle.cycles.specs.declared.Stepped.{Stepped}
 use Rattle.cycles.proofs.Steps.{step-cases}
-use Rattle.queue.specs.Machine.{fire, put}
-use Rattle.queue.specs.Delivered.{Input, marked, deliveredFrom, lastFrom, over, delivered}
+use Rattle.queue.specs.Machine.{fire, machineOf, put}
+use Rattle.queue.specs.Delivered.{Input, marked, deliveredFrom, lastFrom, over, delivered, endState, choices}
 use Rattle.queue.specs.History.{holds, WholeFirings}
 use Rattle.queue.specs.Claims.{IsAccepted}
 use Rattle.queue.proofs.Circuit.{moved}
 use Rattle.queue.proofs.Marks.{marked-refused, marked-worked}
 use Rattle.queue.proofs.Guarantee.{only-buffers-hold}
-use Rattle.queue.proofs.Trial.{block, counter, counter-accepted, counter-free, counterSteps}
+use Rattle.queue.proofs.Trial.{block, counter, counter-accepted, counterSteps}
 use Rattle.handshake.specs.Table.{Column, columnOf, tableFrom, Over, observed, offeredFirst, stillOffered, Protocol}
 use Rattle.handshake.proofs.Protocol.{table-protocol, over-same}
 
@@ -154,9 +154,9 @@ counter-holds =
 
 -- the law, of each of its blocks
 pub counter-fires : (masks : List (ℕ × ℕ)) (b : ℕ) → b < 5
-    → WholeFirings (kindAt counter [] [] b) (regsOf (lastFrom true counter (freshBy true counter) (over [] [] masks)) b)
+    → WholeFirings (machineOf counter [] [] (choices true counter [] [] masks) .kind b) (regsOf (endState true counter [] [] masks) b)
     (λ i. delivered true counter [] [] masks (viewOf counter [] [] .inp b i)) (λ j. delivered true counter [] [] masks (viewOf counter [] [] .out b j))
-counter-fires = only-buffers-hold true counter [] [] refl counter-accepted counter-free
+counter-fires = only-buffers-hold true counter [] [] refl counter-accepted
 
 -- ## Two sources, a merge of them, and a sink for each of its outputs
 

@@ -1,7 +1,7 @@
 // Backward: at which inputs a block is ready, by kind.
 ghost use mathlib.Core.Path.{_≡_};
 ghost use mathlib.Core.Bool.{Bool, _&&_};
-ghost use mathlib.Core.List.{List};
+ghost use mathlib.Core.List.{List, []};
 ghost use mathlib.Core.Option.{Option};
 ghost use Prim.Native.Nat.{ℕ, _+_, _-_, _*_, _≤_, _<_, _^_};
 ghost use lib.Dec.{eqb};
@@ -313,8 +313,8 @@ pub fn backward_merge(
     requires { ⌜ reg .word ≤ m ⌝ }
     requires { ⌜ reg .marks < 4 ⌝ }
     requires { ⌜ GoneQuiet 2 m (reg .marks) (now rows) base (now valid) ⌝ }
-    requires { ⌜ OwnInputs (merge m) (now rows) base ⌝ }
-    ensures { λ _. ⌜ ((mask : Bool) → Backward (merge m) mask reg (now (rows .entry)) base (sigAt (now (valid .entry)) (now (word .entry))) (readyAt (now (ready .entry))) (readyAt (now (ready .exit)))) ⌝ }
+    requires { ⌜ OwnInputs (merge m []) (now rows) base ⌝ }
+    ensures { λ _. ⌜ ((mask : Bool) → Backward (merge m []) mask reg (now (rows .entry)) base (sigAt (now (valid .entry)) (now (word .entry))) (readyAt (now (ready .entry))) (readyAt (now (ready .exit)))) ⌝ }
     ensures { λ _. ⌜ length (now (ready .exit)) ≡ 128 ⌝ }
 {
     let w = winner_of(m, reg.word, base, rows, valid);

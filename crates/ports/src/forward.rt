@@ -1,7 +1,7 @@
 // Forward: what a block's outputs show, by kind.
 ghost use mathlib.Core.Path.{_≡_};
 ghost use mathlib.Core.Bool.{Bool};
-ghost use mathlib.Core.List.{List};
+ghost use mathlib.Core.List.{List, []};
 ghost use mathlib.Core.Option.{Option, some};
 ghost use Prim.Native.Nat.{ℕ, suc, _+_, _-_, _≤_, _<_};
 ghost use lib.Dec.{eqb};
@@ -283,8 +283,8 @@ pub fn forward_merge(
     requires { ⌜ Sized (now valid) (now word) ⌝ }
     requires { ⌜ m ≤ 8 ⌝ }
     requires { ⌜ reg .word ≤ m ⌝ }
-    requires { ⌜ OwnOutputs (merge m) (now rows) base ⌝ }
-    ensures { λ _. ⌜ ((mask : Bool) → Forward (merge m) mask reg (now (rows .entry)) base (sigAt (now (valid .entry)) (now (word .entry))) (sigAt (now (valid .exit)) (now (word .exit)))) ⌝ }
+    requires { ⌜ OwnOutputs (merge m []) (now rows) base ⌝ }
+    ensures { λ _. ⌜ ((mask : Bool) → Forward (merge m []) mask reg (now (rows .entry)) base (sigAt (now (valid .entry)) (now (word .entry))) (sigAt (now (valid .exit)) (now (word .exit)))) ⌝ }
     ensures { λ _. ⌜ Sized (now (valid .exit)) (now (word .exit)) ⌝ }
 {
     let w = winner_of(m, reg.word, base, rows, valid);

@@ -1,7 +1,7 @@
 // The next registers of a block, by kind.
 ghost use mathlib.Core.Path.{_≡_};
 ghost use mathlib.Core.Bool.{Bool, true, false};
-ghost use mathlib.Core.List.{List};
+ghost use mathlib.Core.List.{List, []};
 ghost use mathlib.Core.Option.{Option};
 ghost use Prim.Native.Nat.{ℕ, _≤_, _<_, _^_};
 ghost use lib.ListN.{getD};
@@ -69,7 +69,7 @@ pub fn next_merge(
     requires { ⌜ reg .word ≤ m ⌝ }
     requires { ⌜ reg .marks < 4 ⌝ }
     requires { ⌜ GoneQuiet 2 m (reg .marks) (now rows) base (now valid) ⌝ }
-    ensures { λ r. ⌜ r ≡ nextHere (merge m) reg (now (rows .entry)) base (sigAt (now (valid .entry)) (now (word .entry))) (readyAt (now (ready .entry))) ⌝ }
+    ensures { λ r. ⌜ r ≡ nextHere (merge m []) reg (now (rows .entry)) base (sigAt (now (valid .entry)) (now (word .entry))) (readyAt (now (ready .entry))) ⌝ }
 {
     let w = winner_of(m, reg.word, base, rows, valid);
     let a = won_by(m, w, base, rows, valid, word);

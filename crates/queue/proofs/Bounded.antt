@@ -12,11 +12,12 @@ use lib.Dec.{ltb, eqb}
 use lib.ListN.{length, length-append}
 use Rattle.blocks.specs.Ports.{nIn, nOut}
 use Rattle.blocks.specs.Firing.{Turn, turn}
+use Rattle.blocks.proofs.Options.{if-there}
 use Rattle.blocks.proofs.Turns.{turn-takes}
 use Rattle.cycles.specs.Wires.{View}
 use Rattle.cycles.proofs.Wiring.{Wired}
 use Rattle.queue.specs.Machine.{Queues, waiting, turnOf, perform, after, fire, run, start}
-use Rattle.queue.proofs.Words.{look-inside, if-there}
+use Rattle.queue.proofs.Words.{look-inside}
 use Rattle.queue.proofs.Apart.{last-or}
 use Rattle.queue.proofs.Walk.{walk-grows}
 use Rattle.queue.proofs.Effects.{take-here, take-elsewhere}

@@ -11,12 +11,12 @@ use borrow.Author.Tests.{eqb-true, eqb-false, ltb-true}
 use lib.Dec.{ltb, eqb}
 use Rattle.blocks.specs.Ports.{nIn, nOut}
 use Rattle.blocks.specs.Firing.{Turn}
-use Rattle.blocks.proofs.Options.{Below}
+use Rattle.blocks.proofs.Options.{Below, if-there, if-below}
 use Rattle.blocks.proofs.Turns.{turn-below}
 use Rattle.cycles.specs.Wires.{View}
 use Rattle.cycles.proofs.Wiring.{Wired}
 use Rattle.queue.specs.Machine.{Queues, waiting, turnOf, perform, after, fire, run, start}
-use Rattle.queue.proofs.Words.{prefix-refl, prefix-trans, prefix-compare, look-prefix, if-there, if-below}
+use Rattle.queue.proofs.Words.{prefix-refl, prefix-trans, prefix-compare, look-prefix}
 use Rattle.queue.proofs.Apart.{outputs-apart, inputs-apart}
 use Rattle.queue.proofs.Walk.{change-other, change-swap, walk-elsewhere, walk-swap, walk-grows}
 

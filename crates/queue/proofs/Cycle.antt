@@ -1,7 +1,7 @@
 -- One cycle of one block against one firing of it, kind by kind: the only place of the guarantee that looks into the equations. What a block offers is the word
 -- that it holds or the word that its next firing gives (`offer`), and a cycle is to it no firing or one (`close`).
 -- Assumes nothing.
-use Prim.Native.Nat.{ℕ, zero, suc, _+_, _<_}
+use Prim.Native.Nat.{ℕ, zero, suc, _+_, _-_, _<_}
 use mathlib.Core.Path.{_≡_, refl, sym, ap, _∙_, subst}
 use mathlib.Core.Bool.{Bool, true, false, cond, not, _&&_, _||_, and-false, and-eq-true-iff, true≢false}
 use mathlib.Core.Logic.{_⊎_, inl, inr}
@@ -10,22 +10,22 @@ use mathlib.Core.Option.{Option, some}
 use native.Mathlib.Nat.{zero-div}
 use native.Mathlib.Numerals.{add-one}
 use native.Mathlib.Omega.{arith}
-use borrow.Author.Tests.{eqb-true, ltb-true, not-true}
+use borrow.Author.Tests.{eqb-true, ltb-true, lt-ltb, not-true}
 use lib.Dec.{ltb, eqb}
-use lib.ListN.{length, getD}
+use lib.ListN.{length, getElem?, getD}
 use Rattle.blocks.specs.Folds.{one, bit, bits}
 use Rattle.blocks.specs.Kinds.{Kind, source, sink, operator, constant, fork, mux, demux, merge, buffer, control, unused}
 use Rattle.blocks.specs.Ports.{nIn, nOut}
 use Rattle.blocks.specs.Words.{reach}
-use Rattle.blocks.specs.Signals.{shown, chosen, named, validAt, full}
-use Rattle.blocks.specs.Equations.{went, doneAt, allDone, outOf, readyOf, nextOf}
-use Rattle.blocks.specs.Firing.{Turn, turn, each, swallow, picks, choose, send}
+use Rattle.blocks.specs.Signals.{shown, chosen, named, validAt, empty as cleared, full}
+use Rattle.blocks.specs.Equations.{went, doneAt, allDone, gained, winner, won, outOf, readyOf, nextOf}
+use Rattle.blocks.specs.Firing.{Turn, turn, each, swallow, picks, choose, send, sides, join}
 use Rattle.blocks.specs.declared.Sig.{Sig}
 use Rattle.blocks.specs.declared.Reg.{Reg}
 use Rattle.blocks.proofs.Folds.{only, pair, all-at}
 use Rattle.blocks.proofs.Bits.{bit-bits}
 use Rattle.blocks.proofs.Options.{test, named-true, chosen-valid, reach-below}
-use Rattle.blocks.proofs.Local.{waits}
+use Rattle.blocks.proofs.Local.{winner-below, won-valid, waits}
 use Rattle.queue.specs.History.{early}
 use Rattle.queue.proofs.Words.{look-below}
 
@@ -49,18 +49,19 @@ pub record Works (K : Kind) (mask : Bool) (p : PortSignals) (r r′ : Reg) : Typ
   pub taking : (i : ℕ) → i < nIn K → p .inR i ≡ readyOf K mask r (p .inSig) (validAt (p .outSig)) (p .outR) i
   pub going : r′ ≡ nextOf K r (p .inSig) (p .inR) (validAt (p .outSig)) (p .outR)
 
-abbrev pub isMerge : Kind → Bool
-isMerge (source xs) = false
-isMerge sink = false
-isMerge (operator o) = false
-isMerge (constant o v) = false
-isMerge (fork m) = false
-isMerge (mux m) = false
-isMerge (demux m) = false
-isMerge (merge m) = true
-isMerge (buffer o) = false
-isMerge control = false
-isMerge unused = false
+-- What is asked of a merge, and of no other kind.
+abbrev pub IfMerge : (ℕ → List ℕ → Type 0) → Kind → Type 0
+IfMerge P (source xs) = Unit {0}
+IfMerge P sink = Unit {0}
+IfMerge P (operator o) = Unit {0}
+IfMerge P (constant o v) = Unit {0}
+IfMerge P (fork m) = Unit {0}
+IfMerge P (mux m) = Unit {0}
+IfMerge P (demux m) = Unit {0}
+IfMerge P (merge m cs) = P m cs
+IfMerge P (buffer o) = Unit {0}
+IfMerge P control = Unit {0}
+IfMerge P unused = Unit {0}
 
 -- A word that the block has taken and not yet given: 1 for a full buffer.
 abbrev pub held : Kind → Reg → ℕ
@@ -71,12 +72,17 @@ held (constant o v) r = 0
 held (fork m) r = 0
 held (mux m) r = 0
 held (demux m) r = 0
-held (merge m) r = 0
+held (merge m cs) r = 0
 held (buffer o) r = one (full r)
 held control r = one (full r)
 held unused r = 0
 
--- A source's word register is its number of turns.
+-- A merge's recorded winner is choice k, and without a winner no side has gone.
+abbrev pub Recorded : List ℕ → ℕ → ℕ → ℕ → Type 0
+Recorded cs k zero marks = marks ≡ 0
+Recorded cs k (suc t) marks = getElem? cs k ≡ some t
+
+-- A source's word register is its number of turns; a merge's has its next choice.
 abbrev pub Placed : Kind → Reg → ℕ → Type 0
 Placed (source xs) r k = r .word ≡ k
 Placed sink r k = Unit {0}
@@ -85,10 +91,14 @@ Placed (constant o v) r k = Unit {0}
 Placed (fork m) r k = Unit {0}
 Placed (mux m) r k = Unit {0}
 Placed (demux m) r k = Unit {0}
-Placed (merge m) r k = Unit {0}
+Placed (merge m cs) r k = Recorded cs k (r .word) (r .marks)
 Placed (buffer o) r k = Unit {0}
 Placed control r k = Unit {0}
 Placed unused r k = Unit {0}
+
+-- A merge's winner of this cycle whose input is valid is its next choice.
+abbrev pub Steered : Kind → PortSignals → Reg → ℕ → Type 0
+Steered K p r k = IfMerge (λ m cs. (t : ℕ) → winner m (p .inSig) (r .word) ≡ some t → p .inSig t .valid ≡ true → getElem? cs k ≡ some t) K
 
 -- Every input that is valid shows its word at the front `f`.
 abbrev pub Shown : Kind → PortSignals → (ℕ → Option ℕ) → Type 0
@@ -144,7 +154,15 @@ next-bit : (m j : ℕ) (g : ℕ → Bool) (t : Bool) → j < m → bit j (cond t
 next-bit m j g true q = no-bits j
 next-bit m j g false q = bit-bits g m j q
 
--- A fork's copy that goes had not gone before: so its mark after counts both.
+sides-one : (t w j : ℕ) → length (sides t w j) ≡ 1
+sides-one t w zero = refl
+sides-one t w (suc j) = refl
+
+-- a merge's winner as it is reported
+pub less-one : (t : ℕ) → suc t - 1 ≡ t
+less-one t = omega arith
+
+-- A copy that goes had not gone before: so its mark after counts both.
 copy-counts : (x y v r : Bool) → y ≡ (v && not x) → one (y && r) + 0 + one x ≡ 0 + one (x || (y && r))
 copy-counts true y true r e = rw e
 copy-counts true y false r e = rw e
@@ -242,18 +260,38 @@ module _ (mask : Bool) (p : PortSignals) (r r′ : Reg) (k : ℕ) (f : ℕ → O
       (λ z. let e = shows (p .outSig 0) (p .inSig 0 .valid) (p .inSig 0 .word) (s .showing 0 (omega arith) ∙ rw z) v in
       given control 0 (each (p .inSig 0 .word)) (rw z) refl (rw (h 0 (omega arith) (e .0))) (rw (e .1)))
 
-  pub offer : (K : Kind) → isMerge K ≡ false → Works K mask p r r′ → Placed K r k → (waits K ≡ true → Shown K p f) → (j : ℕ) → j < nOut K → Offers K j
-  offer (source xs) np s pl h j q = only (Offers (source xs)) (λ v. given (source xs) 0 (each (p .outSig 0 .word)) refl refl (fires-source xs s pl v) refl) j q
-  offer sink np s pl h j q = absurd (omega arith)
-  offer (operator o) np s pl h j q = only (Offers (operator o)) (λ v. given (operator o) 0 (each (p .outSig 0 .word)) refl refl (fires-operator o s (h refl) v) refl) j q
-  offer (constant o x) np s pl h j q = only (Offers (constant o x)) (λ v. given (constant o x) 0 (each (p .outSig 0 .word)) refl refl (fires-constant o x s (h refl) v) refl) j q
-  offer (fork m) np s pl h j q = offer-fork m s (h refl) j q
-  offer (mux m) np s pl h j q = only (Offers (mux m)) (offer-mux m s (h refl)) j q
-  offer (demux m) np s pl h j q = offer-demux m s (h refl) j q
-  offer (merge m) np s pl h j q = absurd (true≢false np)
-  offer (buffer o) np s pl h j q = only (Offers (buffer o)) (offer-buffer o s) j q
-  offer control np s pl h j q = only (Offers control) (offer-control s (h refl)) j q
-  offer unused np s pl h j q = absurd (omega arith)
+  -- (The winner is a variable of its own here, as the chosen port of a mux.)
+  merge-at : (m : ℕ) (cs : List ℕ) (t : ℕ) → Steered (merge m cs) p r k → Shown (merge m cs) p f → winner m (p .inSig) (r .word) ≡ some t → p .inSig t .valid ≡ true
+      → turn (merge m cs) k f ≡ some (join t (p .inSig t .word))
+  merge-at m cs t st h e v = let l : t < m = winner-below m (p .inSig) (r .word) t e in rw (st t e v, lt-ltb t m l, h t l v)
+
+  offer-side : (m : ℕ) (cs : List ℕ) (j w : ℕ) → Steered (merge m cs) p r k → Shown (merge m cs) p f
+      → ((t : ℕ) → winner m (p .inSig) (r .word) ≡ some t → sides t (p .inSig t .word) j ≡ w ∷ [])
+      → p .outSig j ≡ shown (won m r (p .inSig) .valid && not (bit j (r .marks))) w → Offers (merge m cs) j
+  offer-side m cs j w st h side e v =
+      let a = shows (p .outSig j) _ _ e v in
+      let both = and2 (won m r (p .inSig) .valid) (not (bit j (r .marks))) (a .0) in
+      let at = won-valid m r (p .inSig) (both .0) in
+      given (merge m cs) j (join (at .0) (p .inSig (at .0) .word)) refl (rw (not-true (bit j (r .marks)) (both .1))) (merge-at m cs (at .0) st h (at .1) (at .2))
+      (side (at .0) (at .1) ∙ rw (a .1))
+
+  offer-merge : (m : ℕ) (cs : List ℕ) → Works (merge m cs) mask p r r′ → Steered (merge m cs) p r k → Shown (merge m cs) p f → (j : ℕ) → j < 2 → Offers (merge m cs) j
+  offer-merge m cs s st h =
+      pair (Offers (merge m cs)) (offer-side m cs 0 _ st h (λ t e. rw e) (s .showing 0 (omega arith)))
+      (offer-side m cs 1 _ st h (λ t e. rw (e, less-one t)) (s .showing 1 (omega arith)))
+
+  pub offer : (K : Kind) → Steered K p r k → Works K mask p r r′ → Placed K r k → (waits K ≡ true → Shown K p f) → (j : ℕ) → j < nOut K → Offers K j
+  offer (source xs) st s pl h j q = only (Offers (source xs)) (λ v. given (source xs) 0 (each (p .outSig 0 .word)) refl refl (fires-source xs s pl v) refl) j q
+  offer sink st s pl h j q = absurd (omega arith)
+  offer (operator o) st s pl h j q = only (Offers (operator o)) (λ v. given (operator o) 0 (each (p .outSig 0 .word)) refl refl (fires-operator o s (h refl) v) refl) j q
+  offer (constant o x) st s pl h j q = only (Offers (constant o x)) (λ v. given (constant o x) 0 (each (p .outSig 0 .word)) refl refl (fires-constant o x s (h refl) v) refl) j q
+  offer (fork m) st s pl h j q = offer-fork m s (h refl) j q
+  offer (mux m) st s pl h j q = only (Offers (mux m)) (offer-mux m s (h refl)) j q
+  offer (demux m) st s pl h j q = offer-demux m s (h refl) j q
+  offer (merge m cs) st s pl h j q = offer-merge m cs s st (h refl) j q
+  offer (buffer o) st s pl h j q = only (Offers (buffer o)) (offer-buffer o s) j q
+  offer control st s pl h j q = only (Offers control) (offer-control s (h refl)) j q
+  offer unused st s pl h j q = absurd (omega arith)
 
   -- What a cycle is to the block: no firing, or one.
   abbrev pub Closed : Kind → Type 0
@@ -494,18 +532,65 @@ module _ (mask : Bool) (p : PortSignals) (r r′ : Reg) (k : ℕ) (f : ℕ → O
         place-stay = tt;
       })))
 
-  pub close : (K : Kind) → isMerge K ≡ false → Works K mask p r r′ → Placed K r k → Shown K p f → Closed K
-  close (source xs) np s pl h = close-source xs s pl
-  close sink np s pl h = close-sink s h
-  close (operator o) np s pl h = close-operator o s h
-  close (constant o x) np s pl h = close-constant o x s h
-  close (fork m) np s pl h = close-fork m s h
-  close (mux m) np s pl h = close-mux m s h
-  close (demux m) np s pl h = close-demux m s h
-  close (merge m) np s pl h = absurd (true≢false np)
-  close (buffer o) np s pl h = close-buffer o s h
-  close control np s pl h = close-control s h
-  close unused np s pl h =
+  -- what the sides of a merge show, and what has gone with this cycle
+  side-valid : (m : ℕ) (cs : List ℕ) → Works (merge m cs) mask p r r′ → (j : ℕ) → j < 2 → p .outSig j .valid ≡ (won m r (p .inSig) .valid && not (bit j (r .marks)))
+  side-valid m cs s =
+      pair (λ j. p .outSig j .valid ≡ (won m r (p .inSig) .valid && not (bit j (r .marks)))) (valid-of (merge m cs) s 0 (omega arith)) (valid-of (merge m cs) s 1 (omega arith))
+
+  side-counts : (m : ℕ) (cs : List ℕ) → Works (merge m cs) mask p r r′ → (j : ℕ) → j < 2 → one (gone p j) + 0 + one (bit j (r .marks)) ≡ 0 + one (doneAt (r .marks) (gone p) j)
+  side-counts m cs s j l = copy-counts (bit j (r .marks)) (p .outSig j .valid) (won m r (p .inSig) .valid) (p .outR j) (side-valid m cs s j l)
+
+  merge-move : (m : ℕ) (cs : List ℕ) (t : ℕ) → Works (merge m cs) mask p r r′ → Steered (merge m cs) p r k → Shown (merge m cs) p f
+      → winner m (p .inSig) (r .word) ≡ some t → p .inSig t .valid ≡ true → allDone 2 (r .marks) (gone p) ≡ true → Move (merge m cs) p r r′ k f
+  merge-move m cs t s st h e v d =
+      let n : r′ ≡ cleared = s .going ∙ rw (e, v, d) in
+      record {
+        turned = join t (p .inSig t .word);
+        turns = merge-at m cs t st h e v;
+        ins-move = λ i l. test (eqb i t)
+            (λ y. rw (s .taking i l, e, v, d, y, ap (λ (x : ℕ). p .inSig x .valid) (eqb-true i t y) ∙ v))
+            (λ y. rw (s .taking i l, e, v, d, y, and-false (p .inSig i .valid)));
+        outs-move = λ j l. side-counts m cs s j l ∙ rw (all-at (doneAt (r .marks) (gone p)) 2 d j l, n, no-bits j, sides-one t (p .inSig t .word) j);
+        held-move = λ j h e. absurd (omega arith);
+        place-move = rw n;
+      }
+
+  merge-wait : (m : ℕ) (cs : List ℕ) (t : ℕ) → Works (merge m cs) mask p r r′ → Steered (merge m cs) p r k
+      → winner m (p .inSig) (r .word) ≡ some t → p .inSig t .valid ≡ true → allDone 2 (r .marks) (gone p) ≡ false → Stay (merge m cs) p r r′ k
+  merge-wait m cs t s st e v d =
+      let n : r′ ≡ record { word = suc t; marks = gained 2 (r .marks) (gone p) } = s .going ∙ rw (e, v, d) in
+      record {
+        ins-stay = λ i l. rw (s .taking i l, d, and-false (won m r (p .inSig) .valid)) (and-false (p .inSig i .valid));
+        outs-stay = λ j l. side-counts m cs s j l ∙ rw (n, bit-bits (doneAt (r .marks) (gone p)) 2 j l);
+        held-stay = λ j h e. absurd (omega arith);
+        place-stay = rw n (st t e v);
+      }
+
+  close-merge : (m : ℕ) (cs : List ℕ) → Works (merge m cs) mask p r r′ → Recorded cs k (r .word) (r .marks) → Steered (merge m cs) p r k → Shown (merge m cs) p f → Closed (merge m cs)
+  close-merge m cs s pl st h =
+      test (won m r (p .inSig) .valid)
+      (λ q. let at = won-valid m r (p .inSig) q in
+      test (allDone 2 (r .marks) (gone p)) (λ d. inr (merge-move m cs (at .0) s st h (at .1) (at .2) d)) (λ d. inl (merge-wait m cs (at .0) s st (at .1) (at .2) d)))
+      (λ q. let n : r′ ≡ r = s .going ∙ rw q in
+      inl (record {
+        ins-stay = λ i l. rw (s .taking i l, q) (and-false (p .inSig i .valid));
+        outs-stay = λ j l. rw (side-valid m cs s j l, q, n);
+        held-stay = λ j h e. absurd (omega arith);
+        place-stay = rw n pl;
+      }))
+
+  pub close : (K : Kind) → Steered K p r k → Works K mask p r r′ → Placed K r k → Shown K p f → Closed K
+  close (source xs) st s pl h = close-source xs s pl
+  close sink st s pl h = close-sink s h
+  close (operator o) st s pl h = close-operator o s h
+  close (constant o x) st s pl h = close-constant o x s h
+  close (fork m) st s pl h = close-fork m s h
+  close (mux m) st s pl h = close-mux m s h
+  close (demux m) st s pl h = close-demux m s h
+  close (merge m cs) st s pl h = close-merge m cs s pl st h
+  close (buffer o) st s pl h = close-buffer o s h
+  close control st s pl h = close-control s h
+  close unused st s pl h =
       inl (record {
         ins-stay = λ i l. absurd (omega arith);
         outs-stay = λ j l. absurd (omega arith);

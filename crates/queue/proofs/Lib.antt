@@ -9,11 +9,14 @@ pub mod History
 pub mod Sound
 pub mod Cycle
 pub mod Circuit
+pub mod Choices
 pub mod Simulation
 pub mod Whole
+pub mod Machines
 pub mod Orders
 pub mod Marks
 pub mod Fresh
+pub mod Waits
 pub mod Following
 pub mod Buffers
 pub mod Guarantee

@@ -19,6 +19,8 @@ use Rattle.cycles.proofs.Wiring.{Wired}
 use Rattle.cycles.proofs.Joins.{inp-range, leaves, wired}
 use Rattle.cycles.proofs.Solution.{earlier}
 use Rattle.cycles.proofs.States.{length-tab, getD-tab}
+use Rattle.queue.specs.Machine.{machineOf}
+use Rattle.queue.proofs.Machines.{carried, machine-wired}
 use Rattle.queue.proofs.Simulation.{Order, finish, next}
 
 -- a stands in the list below index q
@@ -52,7 +54,7 @@ in-list [] q b h e = absurd (omega arith)
 in-list (a ∷ l) zero b h e = List·Memᴰ·head (sym e)
 in-list (a ∷ l) (suc q) b h e = List·Memᴰ·tail (in-list l q b (omega arith) e)
 
-module _ (net : Net) (words ends : List ℕ) (ok : fieldsOk net ≡ true) (joins : connected net ≡ true) (order : List ℕ) (o : InOrder net false order) where
+module _ (net : Net) (words ends : List ℕ) (choices : ℕ → List ℕ) (ok : fieldsOk net ≡ true) (joins : connected net ≡ true) (order : List ℕ) (o : InOrder net false order) where
   -- the blocks of the net in their order
   abbrev pub sequence : List ℕ
   sequence = tab (net .size) (λ k. getD order k 0)
@@ -60,11 +62,11 @@ module _ (net : Net) (words ends : List ℕ) (ok : fieldsOk net ≡ true) (joins
   at : (q : ℕ) → q < net .size → getD sequence q 0 ≡ getD order q 0
   at q h = getD-tab (net .size) (λ k. getD order k 0) 0 q h
 
-  sorted : (q : ℕ) → q < net .size → Sorted (viewOf net words ends) (wired net words ends ok joins) [] sequence q
-  unfolding wired
+  sorted : (q : ℕ) → q < net .size → Sorted (machineOf net words ends choices) (machine-wired net words ends choices ok joins) [] sequence q
+  unfolding wired machine-wired
   sorted q h =
       let l : (getD order q 0 < net .size) × (o .place (getD order q 0) ≡ q) = o .listed q h in
-      record { is-block = rw (at q h) (l .0); after = rw (at q h) (λ wt i hi. inr (before (getD order q 0) i (l .0) (l .1) wt hi)) }
+      record { is-block = rw (at q h) (l .0); after = rw (at q h) (λ wt i hi. inr (machine-before (getD order q 0) i (l .0) (l .1) wt hi)) }
     where
       before : (b i : ℕ) → b < net .size → o .place b ≡ q → waits (kindAt net words ends b) ≡ true → i < nIn (kindAt net words ends b)
           → Earlier sequence q (producer net (viewOf net words ends .inp b i))
@@ -75,9 +77,14 @@ module _ (net : Net) (words ends : List ℕ) (ok : fieldsOk net ≡ true) (joins
           let stand = o .stands a ha in
           (o .place a, omega arith, at (o .place a) (stand .0) ∙ stand .1)
 
-  pub ordered : Order (viewOf net words ends) (wired net words ends ok joins) [] sequence
+      machine-before : (b i : ℕ) → b < net .size → o .place b ≡ q → waits (machineOf net words ends choices .kind b) ≡ true → i < nIn (machineOf net words ends choices .kind b)
+          → Earlier sequence q (producer net (viewOf net words ends .inp b i))
+      machine-before b i hb e =
+          carried net words ends choices (λ K. waits K ≡ true → i < nIn K → Earlier sequence q (producer net (viewOf net words ends .inp b i))) (λ m cs h. h) b (before b i hb e)
+
+  pub ordered : Order (machineOf net words ends choices) (machine-wired net words ends choices ok joins) [] sequence
   ordered =
-      order-from (viewOf net words ends) (wired net words ends ok joins) [] sequence
+      order-from (machineOf net words ends choices) (machine-wired net words ends choices ok joins) [] sequence
       (λ q h. sorted q (omega (arith, length-tab (net .size) (λ k. getD order k 0))))
 
   pub everywhere : (b : ℕ) → b < net .size → List·Memᴰ b sequence

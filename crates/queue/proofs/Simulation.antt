@@ -25,7 +25,7 @@ use Rattle.queue.specs.History.{takesOf, givesOf, front, pos, turnAt, go
 use Rattle.queue.proofs.Words.{prefix-trans, prefix-grow, look-prefix, look-at}
 use Rattle.queue.proofs.History.{Same, same, turn-same, got-grows}
 use Rattle.queue.proofs.Sound.{insOf, Sound, AllSound, Later, moved-on, fire-later, run-later, fire-sound, run-sound, fire-pushes, run-pushes}
-use Rattle.queue.proofs.Cycle.{isMerge, held, Placed, Shown, Given, Stay, Move, offer, close}
+use Rattle.queue.proofs.Cycle.{held, Placed, Steered, Shown, Given, Stay, Move, offer, close}
 use Rattle.queue.proofs.Circuit.{portsAt, Cycles, deliver}
 
 length-deliver : (l : List ℕ) (t : Bool) (w : ℕ) → length (l ++ cond t (w ∷ []) []) ≡ length l + one t
@@ -132,12 +132,15 @@ module _ (n : View) (w : Wired n) where
         ap (λ (o : Option Turn). pos (n .kind b) (insOf n s′ b) k i + takesOf o i) (turn-later s s′ b k l h q t e)
         ∙ ap (λ (y : ℕ). y + t .takes i) (same-later s s′ b k l h q .pos-same i c)
 
-  module _ (mask : ℕ → Bool) (D : ℕ → List ℕ) (g : Signals) (r r′ : ℕ → Reg) (plain : (b : ℕ) → b < n .blocks → isMerge (n .kind b) ≡ false) (cycle : Cycles n mask g r r′) where
+  -- One cycle, in which the winner of every merge is its next choice.
+  module _ (mask : ℕ → Bool) (D : ℕ → List ℕ) (g : Signals) (r r′ : ℕ → Reg) (cycle : Cycles n mask g r r′)
+      (steered : (b : ℕ) → b < n .blocks → (s : Queues) → Sound n s b → (x : Follow n s D (r b) b) → Steered (n .kind b) (portsAt n g b) (r b) (x .done)) where
     -- Once block `b` has been fired, the words that it offers stand in their queues.
     fire-ahead : (s : Queues) → Sim n D r s → (b : ℕ) → b < n .blocks → (waits (n .kind b) ≡ true → (i : ℕ) → i < nIn (n .kind b) → Ahead s D g (n .inp b i))
         → (j : ℕ) → j < nOut (n .kind b) → Ahead (fire n b s) D g (n .out b j)
     fire-ahead s x b hb h j q v =
-        ⊎-elim held-case given-case (offer (mask b) (portsAt n g b) (r b) (r′ b) (y .done) (front (insOf n s b) (pos K (insOf n s b) (y .done))) K (plain b hb) (cycle b hb) (y .placed)
+        ⊎-elim held-case given-case
+        (offer (mask b) (portsAt n g b) (r b) (r′ b) (y .done) (front (insOf n s b) (pos K (insOf n s b) (y .done))) K (steered b hb s (x .sound b hb) y) (cycle b hb) (y .placed)
         (λ e. shown s D g (r b) b y (h e)) j q v)
       where
         K : Kind
@@ -281,5 +284,6 @@ module _ (n : View) (w : Wired n) where
               let x1 : Follow n s1 D (r b) b = sim1 .follow b q in
               ⊎-elim (λ y. follow-stay s1 s2 b later2 (sound1 b q) x1 y)
               (λ y. follow-move s1 s2 b later2 (sound1 b q) x1 y (run-pushes n w order s1 sound1 b q (whole b q) (x1 .done) (x1 .behind) (y .turned, y .turns)))
-              (close (mask b) (portsAt n g b) (r b) (r′ b) (x1 .done) (front (insOf n s1 b) (pos (n .kind b) (insOf n s1 b) (x1 .done))) (n .kind b) (plain b q) (cycle b q) (x1 .placed)
+              (close (mask b) (portsAt n g b) (r b) (r′ b) (x1 .done) (front (insOf n s1 b) (pos (n .kind b) (insOf n s1 b) (x1 .done))) (n .kind b)
+              (steered b q s1 (sound1 b q) x1) (cycle b q) (x1 .placed)
               (shown s1 D g (r b) b x1 (λ i hi. ahead1 (n .inp b i) (w .inp-range b i q hi))))

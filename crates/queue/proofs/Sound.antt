@@ -12,13 +12,13 @@ use borrow.Author.Tests.{eqb-true, eqb-false, eq-eqb, ltb-true, ltb-false, lt-lt
 use lib.Dec.{ltb, eqb}
 use Rattle.blocks.specs.Ports.{nIn, nOut}
 use Rattle.blocks.specs.Firing.{Turn, turn, first}
-use Rattle.blocks.proofs.Options.{Below, test}
+use Rattle.blocks.proofs.Options.{Below, test, if-there}
 use Rattle.blocks.proofs.Turns.{turn-below}
 use Rattle.cycles.specs.Wires.{View}
 use Rattle.cycles.proofs.Wiring.{Wired}
 use Rattle.queue.specs.Machine.{Queues, change, waiting, turnOf, perform, after, fire, run, start}
 use Rattle.queue.specs.History.{front, pos, turnAt, got}
-use Rattle.queue.proofs.Words.{prefix-refl, prefix-trans, if-there}
+use Rattle.queue.proofs.Words.{prefix-refl, prefix-trans}
 use Rattle.queue.proofs.Apart.{outputs-apart, inputs-apart}
 use Rattle.queue.proofs.Walk.{walk-grows}
 use Rattle.queue.proofs.Effects.{put-here, put-elsewhere, take-here, take-elsewhere, puts-start}

@@ -1,5 +1,5 @@
 -- "Only buffers can hold tokens" (document 001, section 5): where the circuit is followed by the queue machine, each of its blocks has done whole firings over the
--- words delivered at its inputs. What the firings gave has left, but for the word that a buffer holds; only a fork's copies can have left before. Both what has
+-- words delivered at its inputs. What the firings gave has left, but for the word that a buffer holds; only a fork's copies and a merge's sides can have left before. Both what has
 -- left, with the word held, and what the firings gave begin the words that the machine has put; their lengths say the rest.
 -- Assumes nothing.
 use Prim.Native.Nat.{ℕ, _+_, _<_}
@@ -38,7 +38,7 @@ holds-what (constant o c) r = inr (refl, refl)
 holds-what (fork m) r = inr (refl, refl)
 holds-what (mux m) r = inr (refl, refl)
 holds-what (demux m) r = inr (refl, refl)
-holds-what (merge m) r = inr (refl, refl)
+holds-what (merge m cs) r = inr (refl, refl)
 holds-what (buffer o) r = full-or-not r
 holds-what control r = full-or-not r
 holds-what unused r = inr (refl, refl)

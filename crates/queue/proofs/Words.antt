@@ -2,11 +2,11 @@
 -- xs ++ zs ≡ ys).
 -- Assumes nothing.
 use Prim.Native.Nat.{ℕ, zero, suc, _≤_, _<_}
-use mathlib.Core.Path.{_≡_, refl, sym, ap, _∙_}
-use mathlib.Core.Bool.{Bool, true, false, cond}
+use mathlib.Core.Path.{_≡_, refl, sym, ap, _∙_, subst}
+use mathlib.Core.Bool.{cond}
 use mathlib.Core.Logic.{_⊎_, inl, inr}
-use mathlib.Core.List.{List, [], _∷_, _++_, append-nil, append-assoc, cons-ne-nil, IsPrefix}
-use mathlib.Core.Option.{Option, none, some}
+use mathlib.Core.List.{List, [], _∷_, _++_, append-nil, append-assoc, cons-ne-nil, IsPrefix, List·Memᴰ, List·Memᴰ·head, List·Memᴰ·tail}
+use mathlib.Core.Option.{some}
 use native.Mathlib.Omega.{arith}
 use borrow.Author.Tests.{ltb-true, ltb-false}
 use lib.Dec.{ltb}
@@ -21,6 +21,20 @@ prefix-more xs ys = (ys, refl)
 
 pub prefix-trans : (xs ys zs : List ℕ) → IsPrefix xs ys → IsPrefix ys zs → IsPrefix xs zs
 prefix-trans xs ys zs p q = (p .0 ++ q .0, sym (append-assoc xs (p .0) (q .0)) ∙ ap (λ (l : List ℕ). l ++ q .0) (p .1) ∙ q .1)
+
+pub prefix-under : (zs xs ys : List ℕ) → IsPrefix xs ys → IsPrefix (zs ++ xs) (zs ++ ys)
+prefix-under zs xs ys p = (p .0, append-assoc zs xs (p .0) ∙ ap (λ (l : List ℕ). zs ++ l) (p .1))
+
+pub prefix-nil : (xs : List ℕ) → IsPrefix xs [] → xs ≡ []
+prefix-nil [] p = refl
+prefix-nil (x ∷ xs) p = absurd (cons-ne-nil x (xs ++ p .0) (p .1))
+
+pub prefix-in : (xs ys : List ℕ) → IsPrefix xs ys → (t : ℕ) → List·Memᴰ t xs → List·Memᴰ t ys
+prefix-in xs ys p t i = subst (λ (l : List ℕ). List·Memᴰ t l) (p .1) (more xs i)
+  where
+    more : (l : List ℕ) → List·Memᴰ t l → List·Memᴰ t (l ++ p .0)
+    more (x ∷ l) (List·Memᴰ·head e) = List·Memᴰ·head e
+    more (x ∷ l) (List·Memᴰ·tail i) = List·Memᴰ·tail (more l i)
 
 -- Of two beginnings of one list the shorter begins the longer.
 pub prefix-shorter : (xs ys zs : List ℕ) → IsPrefix xs zs → IsPrefix ys zs → length xs ≤ length ys → IsPrefix xs ys
@@ -37,6 +51,21 @@ prefix-compare xs ys zs p q =
     test (ltb (length ys) (length xs))
     (λ e. inr (prefix-shorter ys xs zs q p (omega (arith, ltb-true (length ys) (length xs) e))))
     (λ e. inl (prefix-shorter xs ys zs p q (ltb-false (length ys) (length xs) e)))
+
+-- Where one of two lists begins the other, both begin the longer.
+abbrev pub longer : List ℕ → List ℕ → List ℕ
+longer xs ys = cond (ltb (length xs) (length ys)) ys xs
+
+common : (xs ys : List ℕ) → IsPrefix xs ys ⊎ IsPrefix ys xs → (zs : List ℕ) × IsPrefix xs zs × IsPrefix ys zs
+common xs ys (inl p) = (ys, p, prefix-refl ys)
+common xs ys (inr p) = (xs, prefix-refl xs, p)
+
+pub begins-longer : (xs ys : List ℕ) → IsPrefix xs ys ⊎ IsPrefix ys xs → IsPrefix xs (longer xs ys) × IsPrefix ys (longer xs ys)
+begins-longer xs ys h =
+    let z = common xs ys h in
+    test (ltb (length xs) (length ys))
+    (λ e. rw e (prefix-shorter xs ys (z .0) (z .1) (z .2) (omega (arith, ltb-true (length xs) (length ys) e)), prefix-refl ys))
+    (λ e. rw e (prefix-refl xs, prefix-shorter ys xs (z .0) (z .2) (z .1) (ltb-false (length xs) (length ys) e)))
 
 -- What a list holds at an index, every list that begins with it holds there.
 look-append : (xs ys : List ℕ) (i : ℕ) → Below (getElem? xs i) (getElem? (xs ++ ys) i)
@@ -75,12 +104,3 @@ look-inside (x ∷ xs) (suc i) w e = omega (arith, look-inside xs i w e)
 -- What a list holds at an index below the length of a beginning of it, the beginning holds there.
 pub look-short : (xs ys : List ℕ) → IsPrefix xs ys → (i : ℕ) → i < length xs → Below (getElem? ys i) (getElem? xs i)
 look-short xs ys p i h w e = look-below xs i h ∙ sym (look-prefix xs ys p i (getD xs i 0) (look-below xs i h)) ∙ e
-
--- What holds under a test.
-pub if-there : {A : Type 0} (t : Bool) (o : Option A) (x : A) → cond t o none ≡ some x → (t ≡ true) × (o ≡ some x)
-if-there true o x e = (refl, e)
-if-there false o x e = none-some e
-
-pub if-below : {A : Type 0} (t : Bool) (o p : Option A) → (t ≡ true → Below o p) → Below (cond t o none) (cond t p none)
-if-below true o p h x e = h refl x e
-if-below false o p h x e = e

@@ -1,13 +1,17 @@
--- What a list of steps delivers, and what a cycle offers (document 01, "The queue machine": "in step order, the words returned with a delivery mark for that channel"), read from the
--- answers of `stepBy`. `ok` says whether the net value is accepted: whoever steps a net knows it.
+-- What a list of steps delivers, what a cycle offers (document 01, "The queue machine": "in step order, the words returned with a delivery mark for that channel"), and
+-- which choices its merges make (request 2), read from the answers of `stepBy`. `ok` says whether the net value is accepted: whoever steps a net knows it.
 -- Assumes nothing.
-use Prim.Native.Nat.{ℕ}
+use Prim.Native.Nat.{ℕ, zero, suc}
 use mathlib.Core.Bool.{Bool, cond}
 use mathlib.Core.List.{List, [], _∷_, _++_}
 use lib.Dec.{eqb}
 use lib.ListN.{getD}
+use Rattle.blocks.specs.Folds.{bit}
+use Rattle.blocks.specs.declared.Reg.{Reg}
 use Rattle.nets.specs.declared.Net.{Net}
-use Rattle.cycles.specs.Cycle.{Signals}
+use Rattle.cycles.specs.Wires.{viewOf}
+use Rattle.cycles.specs.Cycle.{Signals, signalsOf}
+use Rattle.cycles.specs.State.{regsOf}
 use Rattle.cycles.specs.Step.{stepBy, freshBy}
 use Rattle.cycles.specs.declared.State.{State}
 use Rattle.cycles.specs.declared.Stepped.{Stepped}
@@ -47,6 +51,35 @@ over words ends (m ∷ ms) = record { words = words; ends = ends; offer = m .0; 
 abbrev pub offered : Signals → ℕ → List ℕ
 offered g c = cond (g .shows c .valid) (g .shows c .word ∷ []) []
 
--- the words delivered on channel c from the fresh state
+-- from the fresh state, over one set of streams and a list of masks: the words delivered on channel c
 abbrev pub delivered : Bool → Net → List ℕ → List ℕ → List (ℕ × ℕ) → ℕ → List ℕ
 delivered ok net words ends masks c = deliveredFrom ok net (freshBy ok net) (over words ends masks) c
+
+-- the state that the last step returns
+abbrev pub endState : Bool → Net → List ℕ → List ℕ → List (ℕ × ℕ) → State
+endState ok net words ends masks = lastFrom ok net (freshBy ok net) (over words ends masks)
+
+-- the words delivered on channel c, then the word, if any, that is valid there in one more cycle with these masks
+abbrev pub withNext : Bool → Net → List ℕ → List ℕ → List (ℕ × ℕ) → ℕ → ℕ → ℕ → List ℕ
+withNext ok net words ends masks offer ready c =
+    delivered ok net words ends masks c ++ offered (signalsOf net words ends offer ready (regsOf (endState ok net words ends masks))) c
+
+-- ## The choices of merges
+-- Request 2: "A merge's choices are the words delivered on its report channel, then the recorded winner less 1, if there is one and its report hasn't gone."
+
+-- the channel at output 1 of block b: a merge's report channel
+abbrev pub report : Net → ℕ → ℕ
+report net b = viewOf net [] [] .out b 1
+
+-- by the word register, which is 0 for no winner, and by whether the report has gone
+abbrev pub pendingOf : ℕ → Bool → List ℕ
+pendingOf zero gone = []
+pendingOf (suc t) gone = cond gone [] (t ∷ [])
+
+-- "the recorded winner less 1, if there is one and its report hasn't gone": mark 2, which is bit 1, is clear
+abbrev pub pending : Reg → List ℕ
+pending r = pendingOf (r .word) (bit 1 (r .marks))
+
+-- the choices of block b over the whole list of steps
+abbrev pub choices : Bool → Net → List ℕ → List ℕ → List (ℕ × ℕ) → ℕ → List ℕ
+choices ok net words ends masks b = delivered ok net words ends masks (report net b) ++ pending (regsOf (endState ok net words ends masks) b)

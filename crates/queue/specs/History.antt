@@ -55,12 +55,12 @@ inside (constant o v) r = []
 inside (fork m) r = []
 inside (mux m) r = []
 inside (demux m) r = []
-inside (merge m) r = []
+inside (merge m cs) r = []
 inside (buffer o) r = holds r
 inside control r = holds r
 inside unused r = []
 
--- How many words have left at output `j` of a word that has not been taken in: none, but for a copy of a fork that has gone.
+-- How many words have left at output `j` of a word that has not been taken in: none, but for a copy of a fork, or a side of a merge, that has gone.
 abbrev pub early : Kind → Reg → ℕ → ℕ
 early (source xs) r j = 0
 early sink r j = 0
@@ -69,13 +69,13 @@ early (constant o v) r j = 0
 early (fork m) r j = one (bit j (r .marks))
 early (mux m) r j = 0
 early (demux m) r j = 0
-early (merge m) r j = 0
+early (merge m cs) r j = one (bit j (r .marks))
 early (buffer o) r j = 0
 early control r j = 0
 early unused r j = 0
 
 -- A block with registers `r`, at whose inputs the words `ins` and at whose outputs the words `outs` have been delivered, has done whole firings: they take just the
--- words at its inputs, and all that they give has left at its outputs, but for the word that a buffer holds; and nothing more has left, but for early copies.
+-- words at its inputs, and all that they give has left at its outputs, but for the word that a buffer holds; and nothing more has left, but for early copies and sides.
 pub record WholeFirings (K : Kind) (r : Reg) (ins outs : ℕ → List ℕ) : Type 0 where
   pub firings : ℕ
   pub takes-all : (i : ℕ) → i < nIn K → pos K ins firings i ≡ length (ins i)

@@ -7,10 +7,12 @@ use mathlib.Core.List.{List, [], _∷_, _++_}
 use mathlib.Core.Option.{Option, none, some}
 use lib.Dec.{ltb, eqb}
 use lib.ListN.{getElem?}
+use Rattle.blocks.specs.Kinds.{merge}
 use Rattle.blocks.specs.Ports.{nIn, nOut}
 use Rattle.blocks.specs.Firing.{Turn, turn, first}
+use Rattle.nets.specs.Net.{blockAt, isKind}
 use Rattle.nets.specs.declared.Net.{Net}
-use Rattle.cycles.specs.Wires.{View, viewOf}
+use Rattle.cycles.specs.Wires.{View, kindAt, viewOf}
 
 -- By channel: all the words ever put, and how many of them have been taken; the queue is the rest. By block: how often it has fired, for a source its place
 -- in its stream.
@@ -68,6 +70,21 @@ start v =
       fired = λ b. 0;
     }
 
--- all the words that the firings F put on channel c of the net over its streams, those at the start included
+-- the net over its streams as the machine reads it: as a cycle does, but each merge has its choices, one list for each block
+abbrev pub machineOf : Net → List ℕ → List ℕ → (ℕ → List ℕ) → View
+machineOf net words ends choices =
+    record {
+      blocks = net .size;
+      channels = net .channels;
+      kind = λ b. cond (isKind net 7 b) (merge (blockAt net b .m) (choices b)) (kindAt net words ends b);
+      inp = viewOf net words ends .inp;
+      out = viewOf net words ends .out;
+    }
+
+-- all the words that the firings F put on channel c of the net over its streams, its merges with these choices; those at the start included
+abbrev pub putBy : Net → List ℕ → List ℕ → (ℕ → List ℕ) → List ℕ → ℕ → List ℕ
+putBy net words ends choices F c = run (machineOf net words ends choices) F (start (machineOf net words ends choices)) .puts c
+
+-- the same without choices: no merge fires
 abbrev pub put : Net → List ℕ → List ℕ → List ℕ → ℕ → List ℕ
-put net words ends F c = run (viewOf net words ends) F (start (viewOf net words ends)) .puts c
+put net words ends F c = putBy net words ends (λ b. []) F c

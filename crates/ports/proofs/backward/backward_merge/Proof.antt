@@ -15,7 +15,7 @@ use Rattle.blocks.proofs.Local.{winner-below}
 use lib.Dec.{eqb}
 use mathlib.Core.Bool.{Bool, _&&_}
 use mathlib.Core.Option.{Option}
-use mathlib.Core.List.{List}
+use mathlib.Core.List.{List, []}
 use borrow.Author.Needs.{needs}
 use Rattle.ports.proofs.backward.backward_merge.Statement.{statement}
 use Rattle.ports.proofs.backward.backward_merge.Tie as tie
@@ -55,7 +55,7 @@ returns c =
     let g : c .before .before .before .fork-ready .result ≡ (chosen o x .valid && allDone 2 (a .reg .marks) d) =
     c .before .before .before .fork-ready .ensures (a .reg .marks) d (c .before .before .before .before .gone-with .ensures) ∙ ap (λ (s : Sig). s .valid && allDone 2 (a .reg .marks) d) s-is in (
       λ mask.
-          all-inputs (merge (a .m)) mask (a .reg) (a .rows .now) (a .base) (sigAt (a .valid .now) (a .word .now)) _ (λ j. c .before .before .before .fork-ready .result && eqb j (c .before .before .less-one .result)) _ (a .m) refl
+          all-inputs (merge (a .m) []) mask (a .reg) (a .rows .now) (a .base) (sigAt (a .valid .now) (a .word .now)) _ (λ j. c .before .before .before .fork-ready .result && eqb j (c .before .before .less-one .result)) _ (a .m) refl
           (c .ready-chosen .ensures .0)
           (λ i h. ap₂ _&&_ g (ap (eqb i) (c .before .before .less-one .ensures)) ∙ won-number o x (allDone 2 (a .reg .marks) d) i (c .before .before .before .before .before .before .before .winner-of .result) w-is),
       c .ready-chosen .ensures .1,
