@@ -30,7 +30,9 @@ won-by-requires : tie.Need-won-by-requires
 won-by-requires c κs = search needs
 
 gone-with-requires : tie.Need-gone-with-requires
-gone-with-requires c κs = (c .before .before .before .pre .0, (omega arith, (omega arith, (omega (arith, c .before .before .before .pre .1 .1 .1 .0), (c .before .before .before .pre .1 .1 .1 .1 .1 .0, c .before .before .before .pre .1 .1 .1 .1 .1 .1 .0)))))
+gone-with-requires c κs =
+    let start = c .before .before .before in
+    (start .pre .0, (omega arith, (omega arith, (omega (arith, start .pre .1 .1 .1 .0), (start .pre .1 .1 .1 .1 .1 .0, start .pre .1 .1 .1 .1 .1 .1 .0)))))
 
 fork-ready-requires : tie.Need-fork-ready-requires
 fork-ready-requires c κs = search needs
@@ -40,24 +42,43 @@ less-one-requires c κs = search needs
 
 ready-chosen-requires : tie.Need-ready-chosen-requires
 ready-chosen-requires c κs =
-    let a = c .before .before .before .before .before .before .before .args in
-    let own = c .before .before .before .before .before .before .before .pre .1 .1 .1 .1 .1 .1 .1 in
-    (c .before .before .before .before .before .before .before .pre .0, (c .before .before .before .before .before .before .before .pre .1 .0, (c .before .before .before .before .before .before .before .pre .1 .1 .0, (omega (arith, c .before .before .before .before .before .before .before .pre .1 .1 .1 .0), λ i j hi hj e. own i j hi hj (at-zero (a .rows .now) (a .base) i ∙ e ∙ sym (at-zero (a .rows .now) (a .base) j))))))
+    let start = c .before .before .before .before .before .before .before in
+    let a = start .args in
+    let own = start .pre .1 .1 .1 .1 .1 .1 .1 in (
+      start .pre .0,
+      (
+        start .pre .1 .0,
+        (
+          start .pre .1 .1 .0,
+          (
+            omega (arith, start .pre .1 .1 .1 .0),
+            λ i j hi hj e. own i j hi hj (at-zero (a .rows .now) (a .base) i ∙ e ∙ sym (at-zero (a .rows .now) (a .base) j)),
+          ),
+        ),
+      ),
+    )
 
 returns : tie.Need-returns
 returns c =
-    let a = c .before .before .before .before .before .before .before .before .args in
+    let after-less-one = c .before .before in
+    let after-fork-ready = after-less-one .before in
+    let after-gone-with = after-fork-ready .before in
+    let after-won-by = after-gone-with .before .before in
+    let after-winner-of = after-won-by .before in
+    let start = after-winner-of .before in
+    let a = start .args in
     let x : ℕ → Sig = insShow (a .rows .now) (a .base) (sigAt (a .valid .now) (a .word .now)) in
     let o : Option ℕ = winner (a .m) x (a .reg .word) in
     let d : ℕ → Bool = wentAt (a .m) (a .rows .now) (a .base) (a .valid .now) (a .ready .now) in
-    let w-is : c .before .before .before .before .before .before .before .winner-of .result ≡ recorded o = c .before .before .before .before .before .before .before .winner-of .ensures (a .word .now) in
-    let s-is : c .before .before .before .before .before .before .won-by .result ≡ chosen o x = c .before .before .before .before .before .before .won-by .ensures o (winner-below (a .m) x (a .reg .word)) w-is in
-    let g : c .before .before .before .fork-ready .result ≡ (chosen o x .valid && allDone 2 (a .reg .marks) d) =
-    c .before .before .before .fork-ready .ensures (a .reg .marks) d (c .before .before .before .before .gone-with .ensures) ∙ ap (λ (s : Sig). s .valid && allDone 2 (a .reg .marks) d) s-is in (
+    let w-is : after-winner-of .winner-of .result ≡ recorded o = after-winner-of .winner-of .ensures (a .word .now) in
+    let s-is : after-won-by .won-by .result ≡ chosen o x = after-won-by .won-by .ensures o (winner-below (a .m) x (a .reg .word)) w-is in
+    let g : after-fork-ready .fork-ready .result ≡ (chosen o x .valid && allDone 2 (a .reg .marks) d) =
+    after-fork-ready .fork-ready .ensures (a .reg .marks) d (after-gone-with .gone-with .ensures) ∙ ap (λ (s : Sig). s .valid && allDone 2 (a .reg .marks) d) s-is in (
       λ mask.
-          all-inputs (merge (a .m) []) mask (a .reg) (a .rows .now) (a .base) (sigAt (a .valid .now) (a .word .now)) _ (λ j. c .before .before .before .fork-ready .result && eqb j (c .before .before .less-one .result)) _ (a .m) refl
+          all-inputs (merge (a .m) []) mask (a .reg) (a .rows .now) (a .base) (sigAt (a .valid .now) (a .word .now)) _
+          (λ j. after-fork-ready .fork-ready .result && eqb j (after-less-one .less-one .result)) _ (a .m) refl
           (c .ready-chosen .ensures .0)
-          (λ i h. ap₂ _&&_ g (ap (eqb i) (c .before .before .less-one .ensures)) ∙ won-number o x (allDone 2 (a .reg .marks) d) i (c .before .before .before .before .before .before .before .winner-of .result) w-is),
+          (λ i h. ap₂ _&&_ g (ap (eqb i) (after-less-one .less-one .ensures)) ∙ won-number o x (allDone 2 (a .reg .marks) d) i (after-winner-of .winner-of .result) w-is),
       c .ready-chosen .ensures .1,
     )
 
