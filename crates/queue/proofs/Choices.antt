@@ -2,7 +2,7 @@
 -- winner at the place of the next firing (`steer`); and what is pending after the cycle is what the report channel offered and was not taken (`pending-next`).
 -- Assumes nothing.
 use Prim.Native.Nat.{ℕ, zero, suc, _+_, _<_}
-use mathlib.Core.Path.{_≡_, refl, sym, ap, _∙_, subst}
+use mathlib.Core.Path.{_≡_, refl, ap, _∙_, subst}
 use mathlib.Core.Bool.{Bool, true, false, cond, not, _&&_, _||_}
 use mathlib.Core.Logic.{⊎-elim}
 use mathlib.Core.List.{List, [], _∷_, _++_, IsPrefix, List·Memᴰ, List·Memᴰ·append-cases, List·Memᴰ·eq-of-singleton}

@@ -29,7 +29,7 @@ use Rattle.cycles.proofs.Steps.{step-cases}
 use Rattle.queue.specs.Machine.{Queues, run, start, machineOf}
 use Rattle.queue.specs.Delivered.{marked, deliveredFrom, lastFrom, over, offered, report}
 use Rattle.queue.specs.Claims.{IsAccepted}
-use Rattle.queue.proofs.Words.{prefix-refl, prefix-trans, prefix-under}
+use Rattle.queue.proofs.Words.{prefix-trans, prefix-under}
 use Rattle.queue.proofs.Confluence.{run-append}
 use Rattle.queue.proofs.Sound.{insOf, Sound, run-later}
 use Rattle.queue.proofs.Cycle.{Works, IfMerge, Steered}

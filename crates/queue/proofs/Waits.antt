@@ -11,7 +11,6 @@ use borrow.Author.Tests.{ne-eqb}
 use lib.Dec.{eqb}
 use Rattle.blocks.specs.Kinds.{kindOf}
 use Rattle.blocks.specs.Ports.{nOut}
-use Rattle.blocks.specs.declared.Reg.{Reg}
 use Rattle.blocks.specs.Equations.{freshReg}
 use Rattle.blocks.proofs.Folds.{clash}
 use Rattle.nets.specs.Net.{blockAt}
