@@ -1,10 +1,13 @@
 # make run FORM=examples/add5.form: runs a stored net for 6 cycles and prints each delivery.
+# make placements FORM=examples/circle.form: lists where buffers may go in a stored net of at most 6 channels.
 # make lib: the proved library and its header, in build/. make bench: its speed beside plain C.
 # make soak NETS=1000000 SEED=2: the library against the model over so many random nets, with a line of progress every ten seconds.
 # make test: every crate proved from nothing, the must-fail edits and the programs, then the host tests on the library. Its last line is 'N passed, 0 failed'.
 SHELL = /bin/bash
 LIB = build/libwhemdrosk.a
 NETRUN = target/bin/netrun
+NETPLACE = target/bin/netplace
+PLACETRY = target/bin/placetry
 SOURCES := crates.txt $(shell find crates -name '*.rt' -o -name '*.antt')
 
 NETS = 1000000
@@ -13,7 +16,7 @@ SEED = 2
 CORES := $(shell nproc 2> /dev/null || echo 2)
 export RT_JOBS ?= $(shell echo $$((2 * $(CORES))))
 
-.PHONY: test host lib run soak bench clean
+.PHONY: test host lib run placements soak bench clean
 # Two runs of rt at once would share target/.
 .NOTPARALLEL:
 
@@ -27,11 +30,13 @@ test:
 	@tools/dearest
 	@tail -n 1 build/ci.log
 
-# The pages; the library against a model in C, broken stand-ins that the comparison has to catch, the README's program, netrun on the examples.
-host: $(LIB) $(NETRUN)
+# The pages; the library against a model in C, broken stand-ins that the comparison has to catch, the README's program, netrun on the examples; the placements likewise.
+host: $(LIB) $(NETRUN) $(NETPLACE) $(PLACETRY)
 	tools/timed "the pages" $(MAKE) --no-print-directory -C tests pages
 	tools/timed "library and model" $(MAKE) --no-print-directory -C tests check LIB=../$(LIB)
 	tools/timed "broken stand-ins" $(MAKE) --no-print-directory -j$(CORES) -C tests mutants watchdog
+	tools/timed "placements and model" $(MAKE) --no-print-directory -C tests placements NETPLACE=../$(NETPLACE) PLACETRY=../$(PLACETRY)
+	tools/timed "broken stand-ins of placements" $(MAKE) --no-print-directory -j$(CORES) -C tests place-mutants
 	tools/timed "the README's program" $(MAKE) --no-print-directory -C tests readme LIB=../$(LIB) HEADER=../build/whemdrosk.h
 	tools/timed "netrun on the examples" $(MAKE) --no-print-directory -C tests netrun NETRUN=../$(NETRUN)
 
@@ -43,22 +48,25 @@ $(LIB): $(SOURCES) include/whemdrosk.h
 	mkdir -p build
 	cp include/whemdrosk.h target/staticlib/libwhemdrosk.a build/
 
-# netrun cannot give an exit status, so a file that it could not read is refused here.
-run:
-	@test -n "$(FORM)" || { echo "usage: make run FORM=examples/add5.form" >&2; exit 2; }
-	@test -r "$(FORM)" -a ! -d "$(FORM)" || { echo "make run: cannot read $(FORM)" >&2; exit 2; }
-	@$(MAKE) --no-print-directory -s $(NETRUN)
-	@$(NETRUN) "$(FORM)"
+# The programs cannot give an exit status, so a file that could not be read is refused here.
+run: PROGRAM = $(NETRUN)
+placements: PROGRAM = $(NETPLACE)
+run placements:
+	@test -n "$(FORM)" || { echo "usage: make $@ FORM=examples/add5.form" >&2; exit 2; }
+	@test -r "$(FORM)" -a ! -d "$(FORM)" || { echo "make $@: cannot read $(FORM)" >&2; exit 2; }
+	@$(MAKE) --no-print-directory -s $(PROGRAM)
+	@$(PROGRAM) "$(FORM)"
 
-$(NETRUN): $(SOURCES)
-	@tools/proved netrun
+target/bin/%: $(SOURCES)
+	@tools/proved $*
 	@touch $@
 
 soak: $(LIB)
 	$(MAKE) --no-print-directory -C tests soak LIB=../$(LIB) NETS=$(NETS) SEED=$(SEED)
 
-bench: $(LIB)
+bench: $(LIB) $(NETPLACE)
 	$(MAKE) --no-print-directory -C bench run LIB=../$(LIB)
+	$(MAKE) --no-print-directory -C bench list NETPLACE=../$(NETPLACE)
 
 clean:
 	rm -rf target build

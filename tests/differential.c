@@ -5,6 +5,7 @@
 #include "golden.h"
 #include "harness.h"
 #include "model.h"
+#include "spoil.h"
 #include "../include/whemdrosk.h"
 #include <pthread.h>
 #include <stdio.h>
@@ -119,57 +120,10 @@ static void print_notes(void)
 
 // ---- Damaged forms: an accepted form with one field spoilt, so that the refusal is known
 
-// Puts a number from least on and below the limit into a field.
-static void spoil(struct scene *s, struct random *r, size_t at, unsigned width, uint32_t least, uint32_t limit)
+// Spoils a scene's accepted form so that it earns a refusal from 1 to 8.
+static void spoil_scene(struct scene *s, struct random *r, int refusal)
 {
-    set_bits(s->form.bytes, at, width, least + below(r, limit - least));
-}
-
-static void spoil_header(struct scene *s, struct random *r, int refusal)
-{
-    static const unsigned char editions[] = {0, 2, 3, 4, 5, 6, 7, 8, 9, 10, 11, 12, 13, 14, 15};
-    if (refusal == 2 && chance(r, 2)) set_bits(s->form.bytes, 0, 4, editions[below(r, 15)]);
-    else if (refusal == 2) set_bits(s->form.bytes, 4, 12, chance(r, 2) ? 1u << below(r, 12) : 1 + below(r, 4095));
-    else if (chance(r, 2)) set_bits(s->form.bytes, 16, 8, chance(r, 3) ? below(r, 2) : chance(r, 3) ? 65 : 65 + below(r, 191));
-    else set_bits(s->form.bytes, 24, 8, chance(r, 3) ? 0 : chance(r, 3) ? 129 : 129 + below(r, 127));
-}
-
-static void spoil_m(struct scene *s, struct random *r, unsigned b)
-{
-    unsigned kind = s->draft.block[b].kind;
-    if (kind == OPERATOR || kind == CONSTANT) spoil(s, r, s->form.m_at[b], 4, 4, 16);
-    else if (kind >= FORK && kind <= MERGE) set_bits(s->form.bytes, s->form.m_at[b], 4, chance(r, 2) ? below(r, 2) : 9 + below(r, 7));
-    else spoil(s, r, s->form.m_at[b], 4, 1, 16);
-}
-
-static void spoil_end(struct scene *s, struct random *r)
-{
-    size_t padding = 8 * s->form.len - s->form.end;
-    if (padding > 0 && chance(r, 2)) set_bits(s->form.bytes, s->form.end + below(r, (uint32_t)padding), 1, 1);
-    else s->form.len += 1 + (chance(r, 2) ? 0 : below(r, 600));
-}
-
-static void spoil_port(struct scene *s, struct random *r, unsigned b, int refusal)
-{
-    unsigned count = inputs_of(s->draft.block[b].kind, s->draft.block[b].m) + outputs_of(s->draft.block[b].kind, s->draft.block[b].m);
-    unsigned i = below(r, count), channels = s->draft.channels, kept = s->draft.block[b].port[i];
-    if (refusal == 6) spoil(s, r, s->form.port_at[b][i], 7, channels, chance(r, 2) ? channels + 1 : 128);
-    else set_bits(s->form.bytes, s->form.port_at[b][i], 7, (kept + 1 + below(r, channels - 1)) % channels);
-}
-
-// Spoils an accepted form so that it earns a refusal from 1 to 8.
-static void spoil_form(struct scene *s, struct random *r, int refusal)
-{
-    unsigned b = below(r, s->draft.blocks);
-    switch (refusal) {
-    case 1: s->form.len = below(r, (uint32_t)s->form.len); break;
-    case 2:
-    case 3: spoil_header(s, r, refusal); break;
-    case 4: spoil(s, r, s->form.kind_at[b], 4, 11, 16); break;
-    case 5: spoil_m(s, r, b); break;
-    case 7: spoil_end(s, r); break;
-    default: spoil_port(s, r, b, refusal); break;
-    }
+    spoil_form(r, &s->draft, &s->form, refusal);
     s->job.form.len = s->form.len;
     s->job.want = refusal;
 }
@@ -185,7 +139,7 @@ static void try_spoilt_forms(void)
             if (refusal == 8 && wish.limits.blocks < 6) wish.limits.blocks = 6;
             do draw_scene(&s, &r, &wish, "forms with one field spoilt", 20);
             while (refusal == 8 && s.draft.channels < 2);
-            spoil_form(&s, &r, refusal);
+            spoil_scene(&s, &r, refusal);
             compare(&s.job, NULL);
         }
 }
@@ -281,7 +235,7 @@ static void try_bad_streams(void)
         if (i % 4 != 0) spoil_masks(&s, &r);
         if (i % 4 != 1) spoil_streams(&s, &r, i / 4 % 7);
         s.job.want = i % 4 == 1 ? 15 : 14;
-        if (i % 16 == 3) spoil_form(&s, &r, 1 + (int)below(&r, 5));
+        if (i % 16 == 3) spoil_scene(&s, &r, 1 + (int)below(&r, 5));
         compare(&s.job, NULL);
     }
 }

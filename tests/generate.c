@@ -408,7 +408,7 @@ static void swap_ends(struct random *r, struct draft *d)
     enter(d, b, to_a.block, to_a.port);
 }
 
-static void shuffle(struct random *r, unsigned count, unsigned *order)
+void shuffle(struct random *r, unsigned count, unsigned *order)
 {
     for (unsigned i = 0; i < count; i++) order[i] = i;
     for (unsigned i = count; i > 1; i--) {

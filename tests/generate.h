@@ -13,10 +13,11 @@ enum { BLOCK_ROOM = 128, CHANNEL_ROOM = 256, PORT_ROOM = 10, FORM_ROOM = 4096 };
 // A row of random numbers: where it is now, and where it began.
 struct random { uint64_t state, first; };
 
-// The next 32 random bits; a number below n; one chance in n.
+// The next 32 random bits; a number below n; one chance in n; the numbers below count in some order.
 uint32_t random_bits(struct random *r);
 uint32_t below(struct random *r, uint32_t n);
 int chance(struct random *r, uint32_t n);
+void shuffle(struct random *r, unsigned count, unsigned *order);
 
 // A net being drawn; ports hold channel numbers, inputs first; from and to say which port a channel leaves and enters.
 struct place { unsigned block, port; };

@@ -37,6 +37,10 @@ use Rattle.queue.proofs.Guarantee.{
   choices-in-range as machine-choices-in-range,
   buffer-law as machine-buffer-law,
 }
+use Rattle.placed.specs.Placed.{placed}
+use Rattle.placements.specs.Claims.{Loads}
+use Rattle.placements.proofs.Theorems.{placed-loads}
+use Rattle.lockstep.proofs.Theorems.{placements-comparable}
 use Rattle.sim.specs.Calls.{freshOf, stepOf}
 use Rattle.claims.specs.Promised.{
   stepIn,
@@ -52,6 +56,7 @@ use Rattle.claims.specs.Promised.{
   ChoicesComparable,
   ChoicesDecide,
   ChoicesInRange,
+  PlacementsAgree,
   BuffersKeep,
   AcceptedIs,
   Earns12,
@@ -104,6 +109,19 @@ pub same-words : StepsComparable
 same-words net words ends acc free masks others c h =
     subst₂ Comparable (same-delivered net words ends masks c) (same-delivered net words ends others c)
     (machine-same-words (accepted net) net words ends (accepted-true net acc) free masks others c h)
+
+-- ## Placements
+
+-- what placed nets deliver, of the nets that the calls answer
+pub placements-agree : PlacementsAgree
+placements-agree net codes others free e e′ words ends masks masks′ c h =
+    let p : Loads net codes = placed-loads net codes e in
+    let q : Loads net others = placed-loads net others e′ in
+    let a : Net = placed net codes in
+    let b : Net = placed net others in
+    subst₂ (λ (m n : Net). Comparable (deliveredOf m words ends masks c) (deliveredOf n words ends masks′ c)) (sym (p .gives)) (sym (q .gives))
+    (subst₂ Comparable (same-delivered a words ends masks c) (same-delivered b words ends masks′ c)
+    (placements-comparable net codes others (p .base) free (p .fits .each) (q .fits .each) (p .accepts) (q .accepts) (accepted a) (accepted b) words ends masks masks′ c h))
 
 -- ## With merges
 

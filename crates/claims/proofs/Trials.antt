@@ -1,12 +1,13 @@
 -- Document 01's starred trial runs, as the change requests leave them, proved together over the definitions. And nets that meet what the promises ask for, over the
--- definitions of the calls: that of its program netrun, with what its six cycles deliver, and two with a merge, with the choices made.
+-- definitions of the calls: that of its program netrun, with what its six cycles deliver and with buffers placed on its channels, and two with a merge, with the choices made.
 -- Assumes nothing.
 use Prim.Native.Nat.{ℕ, zero, suc, _<_}
-use mathlib.Core.Path.{_≡_, sym, ap, _∙_, subst₂}
+use mathlib.Core.Path.{_≡_, refl, sym, ap, _∙_, subst₂}
 use mathlib.Core.Bool.{Bool, true}
 use mathlib.Core.Logic.{inl}
 use mathlib.Core.List.{List, [], _∷_, IsPrefix, List·Memᴰ}
 use native.Mathlib.Omega.{arith}
+use Rattle.blocks.specs.Folds.{allBelow}
 use Rattle.blocks.proofs.Trials.{BlockTrials, block-trials}
 use Rattle.nets.specs.Verdict.{numberOf}
 use Rattle.nets.specs.Net.{blockAt}
@@ -21,8 +22,12 @@ use Rattle.queue.proofs.Words.{prefix-refl}
 use Rattle.queue.proofs.Trial.{line-free, line-run}
 use Rattle.handshake.proofs.Tables.{merging, merging-accepted}
 use Rattle.handshake.proofs.Chosen.{shared, shared-accepted, sharedWords, sharedEnds, stall, shared-run, merging-run, merging-later}
+use Rattle.placed.specs.Placed.{placed}
+use Rattle.lockstep.proofs.Trials.{one-accepted, mended, mended-too}
+use Rattle.placements.specs.Calls.{codesOk, placeOf}
+use Rattle.placements.proofs.Theorems.{placed-loads, loads-placed}
 use Rattle.claims.specs.Promised.{deliveredOf, choicesOf}
-use Rattle.claims.proofs.Theorems.{same-delivered, same-chosen, guaranteed-merges, same-choices}
+use Rattle.claims.proofs.Theorems.{same-delivered, same-chosen, guaranteed-merges, same-choices, placements-agree}
 
 -- `trial kind` is a source joined to a sink, and beside them a buffer of this kind joined to itself
 pub record Trials : Type 0 where
@@ -63,6 +68,31 @@ module _ (net : Net) (acc : accepted net ≡ true) (words ends : List ℕ) (mask
 
 pub line-delivers : (lineWords 0 ≡ 1 ∷ 2 ∷ 3 ∷ []) × (lineWords 1 ≡ 1 ∷ 2 ∷ 3 ∷ []) × (lineWords 2 ≡ 6 ∷ 7 ∷ 8 ∷ [])
 line-delivers = let say = as-accepted line (line-in .0) (1 ∷ 2 ∷ 3 ∷ []) (3 ∷ []) six in (say 0 ∙ line-run .0, say 1 ∙ line-run .1, say 2 ∙ line-run .2)
+
+-- ## Placements on its channels: nothing, and a control buffer on channel 2
+
+pub line-placed : (placeOf line (0 ∷ 0 ∷ 0 ∷ []) .refusal ≡ 0) × (placeOf line (0 ∷ 0 ∷ 2 ∷ []) .refusal ≡ 0)
+unfolding codesOk allBelow
+line-placed = (
+  loads-placed line (0 ∷ 0 ∷ 0 ∷ []) (line-accepted .0) refl (record { each = refl; blocks-fit = omega arith; channels-fit = omega arith }) line-accepted,
+  loads-placed line (0 ∷ 0 ∷ 2 ∷ []) (line-accepted .0) refl (record { each = refl; blocks-fit = omega arith; channels-fit = omega arith }) one-accepted,
+)
+
+-- whatever the masks of the second are, one list begins the other; of the first the six cycles deliver nine words
+pub line-agrees : (masks : List (ℕ × ℕ)) (c : ℕ) → c < 3
+    → Comparable (lineWords c) (deliveredOf (placed line (0 ∷ 0 ∷ 2 ∷ [])) (1 ∷ 2 ∷ 3 ∷ []) (3 ∷ []) masks c)
+line-agrees masks c h =
+    subst₂ (λ (a b : Net). Comparable (deliveredOf a (1 ∷ 2 ∷ 3 ∷ []) (3 ∷ []) six c) (deliveredOf b (1 ∷ 2 ∷ 3 ∷ []) (3 ∷ []) masks c))
+    (placed-loads line (0 ∷ 0 ∷ 0 ∷ []) (line-placed .0) .gives) (placed-loads line (0 ∷ 0 ∷ 2 ∷ []) (line-placed .1) .gives)
+    (placements-agree line (0 ∷ 0 ∷ 0 ∷ []) (0 ∷ 0 ∷ 2 ∷ []) line-free (line-placed .0) (line-placed .1) (1 ∷ 2 ∷ 3 ∷ []) (3 ∷ []) six masks c h)
+
+-- the data buffer on itself, refused with 11, has placements that load
+pub looped-placed : (placeOf (trial 8) (0 ∷ 2 ∷ []) .refusal ≡ 0) × (placeOf (trial 8) (3 ∷ 2 ∷ []) .refusal ≡ 0)
+unfolding codesOk allBelow
+looped-placed = (
+  loads-placed (trial 8) (0 ∷ 2 ∷ []) (data-buffer-on-itself .0) refl (record { each = refl; blocks-fit = omega arith; channels-fit = omega arith }) mended,
+  loads-placed (trial 8) (3 ∷ 2 ∷ []) (data-buffer-on-itself .0) refl (record { each = refl; blocks-fit = omega arith; channels-fit = omega arith }) mended-too,
+)
 
 -- ## A block that two users share through a merge (examples/shared.net)
 

@@ -20,6 +20,7 @@ use Rattle.queue.specs.Machine.{putBy, put}
 use Rattle.queue.specs.Delivered.{Input, marked, over, report, pending}
 use Rattle.queue.specs.History.{holds}
 use Rattle.queue.specs.Claims.{MergeFree, Comparable, anyBuffer}
+use Rattle.placements.specs.Calls.{placeOf}
 use Rattle.sim.specs.Calls.{freshOf, stepOf}
 
 -- ## A list of steps
@@ -100,6 +101,16 @@ abbrev pub ChoicesInRange : Type 0
 ChoicesInRange =
     (net : Net) (words ends : List ℕ) → accepted net ≡ true → (masks : List (ℕ × ℕ)) (b : ℕ) → b < net .size → blockAt net b .kind ≡ 7
     → (t : ℕ) → List·Memᴰ t (choicesOf net words ends masks b) → t < blockAt net b .m
+
+-- ## Placements (request 3)
+
+-- "Without merges, two placements that load, each stepped as in demand 3 over the same streams, deliver on each old channel lists of which one begins the other; show this for all codes
+-- together". A placement that is not refused has a base net that passes all checks but those for its loops.
+abbrev pub PlacementsAgree : Type 0
+PlacementsAgree =
+    (net : Net) (codes others : List ℕ) → MergeFree net → placeOf net codes .refusal ≡ 0 → placeOf net others .refusal ≡ 0
+    → (words ends : List ℕ) (masks masks′ : List (ℕ × ℕ)) (c : ℕ) → c < net .channels
+    → Comparable (deliveredOf (placeOf net codes .net) words ends masks c) (deliveredOf (placeOf net others .net) words ends masks′ c)
 
 -- ## Buffers
 

@@ -28,10 +28,10 @@ use Rattle.queue.specs.Claims.{IsAccepted, MergeFree}
 use Rattle.queue.proofs.Guarantee.{guaranteed}
 
 -- a computed test for nets without merges
-abbrev noMerge : Net → ℕ → Bool
+abbrev pub noMerge : Net → ℕ → Bool
 noMerge net b = not (isKind net 7 b)
 
-free-test : (net : Net) → allBelow (noMerge net) (net .size) ≡ true → MergeFree net
+pub free-test : (net : Net) → allBelow (noMerge net) (net .size) ≡ true → MergeFree net
 free-test net e b h = eqb-false (blockAt net b .kind) 7 (not-true (isKind net 7 b) (all-at (noMerge net) (net .size) e b h))
 
 -- ## Source 1, 2, 3; data buffer; add 5; sink

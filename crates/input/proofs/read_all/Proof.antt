@@ -1,4 +1,4 @@
--- `netrun::read_input` meets its contract and ends. The loop's invariant: what is read lies within the buffer, whose length is kept. A read that
+-- `input::read_all` meets its contract and ends. The loop's invariant: what is read lies within the buffer, whose length is kept. A read that
 -- gives nothing ends the loop, so each turn leaves less of the buffer.
 -- Assumes nothing.
 use Prim.Native.Nat.{_-_, _≤_}
@@ -6,8 +6,8 @@ use mathlib.Core.Path.{_≡_, sym}
 use lib.ListN.{length}
 use lib.Seq.{length-take-le}
 use borrow.Author.Needs.{needs}
-use Rattle.netrun.proofs.read_input.Statement.{statement}
-use Rattle.netrun.proofs.read_input.Tie as tie
+use Rattle.input.proofs.read_all.Statement.{statement}
+use Rattle.input.proofs.read_all.Tie as tie
 
 abbrev Inv-loop : tie.InvT-loop
 Inv-loop fd buf₀ done₀ buf done = (done ≤ length buf) × (length buf ≡ length buf₀)
@@ -69,8 +69,8 @@ same-length-3 c = search needs
 returns-3 : tie.Need-returns-3 Inv-loop μ-loop
 returns-3 c = (search needs, sym (length-take-le _ _ (search needs)))
 
-pub read-input-spec : {M : Type 1} → statement M
-read-input-spec =
+pub read-all-spec : {M : Type 1} → statement M
+read-all-spec =
     tie.close
     (tie.spec
     Inv-loop

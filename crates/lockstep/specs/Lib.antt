@@ -1,0 +1,2 @@
+-- What is claimed of the words of placements.
+pub mod Claims
