@@ -26,6 +26,7 @@ unfoldable pub kept : (ℕ → Bool) → ℕ → List ℕ
 kept f zero = []
 kept f (suc n) = kept f n ++ cond (f n) (n ∷ []) []
 
+-- the placement with number k loads, where the base net passes
 abbrev pub loads : Net → ℕ → Bool
 loads net k = eqb (placeNumber net (codesOf (net .channels) k)) 0
 
