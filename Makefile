@@ -30,7 +30,8 @@ test:
 	@tools/dearest
 	@tail -n 1 build/ci.log
 
-# The pages; the library against a model in C, broken stand-ins that the comparison has to catch, the README's program, netrun on the examples; the placements likewise.
+# The pages; the library against a model in C, broken stand-ins that the comparison has to catch, the README's program, netrun on the examples; the placements likewise; what
+# the library needs of memory.
 host: $(LIB) $(NETRUN) $(NETPLACE) $(PLACETRY)
 	tools/timed "the pages" $(MAKE) --no-print-directory -C tests pages
 	tools/timed "library and model" $(MAKE) --no-print-directory -C tests check LIB=../$(LIB)
@@ -39,6 +40,7 @@ host: $(LIB) $(NETRUN) $(NETPLACE) $(PLACETRY)
 	tools/timed "broken stand-ins of placements" $(MAKE) --no-print-directory -j$(CORES) -C tests place-mutants
 	tools/timed "the README's program" $(MAKE) --no-print-directory -C tests readme LIB=../$(LIB) HEADER=../build/whemdrosk.h
 	tools/timed "netrun on the examples" $(MAKE) --no-print-directory -C tests netrun NETRUN=../$(NETRUN)
+	tools/timed "what the library needs" $(MAKE) --no-print-directory -C tests needs LIB=../$(LIB)
 
 lib: $(LIB)
 

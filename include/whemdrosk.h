@@ -6,6 +6,8 @@
 //
 // Threads. The calls keep no state and allocate nothing: several threads may call them at once on different buffers.
 //
+// Memory. A call uses less than 16 KiB of stack, and no heap; of the C library it needs memcpy and memset.
+//
 // A stored net (the "form"): fields lie one after another, most significant bit first, no gaps between them:
 //   edition 4 bits (1), reserved 12 bits (0), blocks 8 bits (2 to 64), channels 8 bits (1 to 128);
 //   then for each block: kind 4 bits, m 4 bits, value 32 bits (only WHEMDROSK_CONSTANT and WHEMDROSK_FULL_DATA_BUFFER),

@@ -1,7 +1,5 @@
 -- Laws of one block.
 pub mod Folds
-pub mod Table
-pub mod PortTable
 pub mod Bits
 pub mod Registers
 pub mod Options
@@ -9,6 +7,7 @@ pub mod Local
 pub mod Turns
 pub mod Shapes
 pub mod Numbers
+pub mod Counts
 pub mod Stays
 pub mod Emptied
 pub mod Trials

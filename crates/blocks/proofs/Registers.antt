@@ -1,9 +1,10 @@
--- Registers by kind: which start zero, which no rule names, and what a control buffer keeps.
+-- Registers by kind: which start zero, which are a buffer's, which no rule names, and what a control buffer keeps.
 -- Assumes nothing.
-use Prim.Native.Nat.{ℕ, zero, suc}
+use Prim.Native.Nat.{ℕ, zero, suc, _≤_}
 use mathlib.Core.Path.{_≡_, refl, sym, _∙_}
 use mathlib.Core.Bool.{Bool, true, false, cond, _&&_, and-false}
 use mathlib.Core.List.{List, []}
+use native.Mathlib.Decide.{ℕ-discrete}
 use native.Mathlib.Omega.{arith}
 use borrow.Author.Tests.{eqb-true, ne-eqb, le-leb, lt-leb}
 use lib.Dec.{eqb, leb}
@@ -11,7 +12,7 @@ use mir.Val.{boolByte}
 use Rattle.blocks.specs.Kinds.{kindOf}
 use Rattle.blocks.specs.Signals.{empty, full}
 use Rattle.blocks.specs.Equations.{controlOut, controlNext, freshReg}
-use Rattle.blocks.specs.Shape.{zeroReg, inShape}
+use Rattle.blocks.specs.Shape.{zeroReg, bufferReg, inShape}
 use Rattle.blocks.specs.declared.Reg.{Reg}
 use Rattle.blocks.specs.declared.Sig.{Sig}
 
@@ -29,6 +30,10 @@ fresh-zero (suc (suc (suc (suc (suc (suc (suc (suc zero)))))))) m v xs n = refl
 fresh-zero (suc (suc (suc (suc (suc (suc (suc (suc (suc zero))))))))) m v xs n = absurd (n refl)
 fresh-zero (suc (suc (suc (suc (suc (suc (suc (suc (suc (suc zero)))))))))) m v xs n = refl
 fresh-zero (suc (suc (suc (suc (suc (suc (suc (suc (suc (suc (suc k))))))))))) m v xs n = refl
+
+-- the three buffers
+pub shape-buffer : (kind m value : ℕ) (r : Reg) → 8 ≤ kind → kind ≤ 10 → bufferReg r ≡ inShape (kindOf kind m value []) r
+shape-buffer kind m v r least most = elim (ℕ-discrete kind 8) [ yes e ↦ rw e | no a ↦ elim (ℕ-discrete kind 9) [ yes e ↦ rw e | no b ↦ let e : kind ≡ 10 = omega arith in rw e ] ]
 
 -- the kinds whose registers no rule names
 pub shape-zero : (kind m value : ℕ) (r : Reg) → (kind ≡ 0 → ⊥) → (kind ≡ 4 → ⊥) → (kind ≡ 7 → ⊥) → (kind ≡ 8 → ⊥) → (kind ≡ 9 → ⊥) → (kind ≡ 10 → ⊥)

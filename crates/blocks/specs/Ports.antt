@@ -30,7 +30,7 @@ outputsOf kind m =
     (cond (eqb kind 6) m
     (cond (eqb kind 7) 2 1)))
 
--- what the constant table says: an unused kind or m has no ports
+-- the port counts; an unused kind or m has none
 unfoldable pub portsOf : ℕ → ℕ → Ports
 portsOf kind m = cond (mOk kind m) (Count (inputsOf kind m) (outputsOf kind m)) Unused
 

@@ -44,13 +44,13 @@ pub fn reg_ok(kind: u8, m: u8, reg: Reg) -> bool
     requires { ⌜ m ≤ 8 ⌝ }
     ensures { λ r. ⌜ ((value : ℕ) → r ≡ inShape (kindOf kind m value []) reg) ⌝ }
 {
+    if both(8 <= kind, kind <= 10) {
+        return buffer_reg(reg);
+    }
     match kind {
         0 => reg.marks <= 1,
         4 => fork_reg(m, reg),
         7 => merge_reg(m, reg),
-        8 => buffer_reg(reg),
-        9 => buffer_reg(reg),
-        10 => buffer_reg(reg),
         _ => zero_reg(reg),
     }
 }

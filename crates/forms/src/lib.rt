@@ -22,8 +22,7 @@ pub fn load(form: &[u8]) -> Loading
     if found.refusal != 0 {
         return found;
     }
-    let net = found.net;
-    let plan = nets::plan_of(net);
+    let plan = nets::plan_of(found.net);
     let verdict = plan.verdict;
     let refusal = nets::number(verdict);
     if refusal != 0 {

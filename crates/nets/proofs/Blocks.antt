@@ -1,17 +1,16 @@
 -- The laws of a block's check and of the sides of its ports.
 -- Assumes nothing.
-use mathlib.Core.Path.{_≡_, refl}
+use mathlib.Core.Path.{_≡_, _∙_, ap}
 use mathlib.Core.Bool.{Bool, true, false}
 use Prim.Native.Nat.{ℕ, _+_, _≤_, _<_}
 use native.Mathlib.Omega.{arith}
 use lib.Dec.{leb, ltb}
 use borrow.Author.Tests.{lt-ltb, le-leb, ltb-true, leb-true}
 use lib.ListN.{getD}
-use Rattle.blocks.specs.Ports.{mOk, portsOf, inputCount, outputCount}
-use Rattle.blocks.specs.declared.Ports.{Ports}
+use Rattle.blocks.specs.Ports.{mOk, portsOf}
 use Rattle.blocks.specs.declared.Ports.the-variants.{Count, Unused}
 use Rattle.blocks.proofs.Folds.{and-1, and-2, and-both, all-at}
-use Rattle.blocks.proofs.PortTable.{used, unused, total, total-small}
+use Rattle.blocks.proofs.Counts.{inUse, in-use, ten-ports}
 use Rattle.nets.specs.Block.{ins, outs, onSide, portOk, portsOk, valueOk, blockOk}
 use Rattle.nets.specs.declared.Block.{Block}
 
@@ -20,18 +19,18 @@ use Rattle.nets.specs.declared.Block.{Block}
 module _ (b : Block) (channels : ℕ) where
   pub block-unused : portsOf (b .kind) (b .m) ≡ Unused → blockOk b channels ≡ false
   unfolding blockOk
-  block-unused e = rw (unused (b .kind) (b .m) e)
+  block-unused e = rw (in-use (b .kind) (b .m) ∙ ap inUse e)
 
   module _ (i o : ℕ) (e : portsOf (b .kind) (b .m) ≡ Count i o) where
     pub block-value : valueOk (b .kind) (b .value) ≡ false → blockOk b channels ≡ false
     unfolding blockOk
-    block-value v = rw (used (b .kind) (b .m) i o e .0, v)
+    block-value v = rw (in-use (b .kind) (b .m) ∙ ap inUse e, v)
 
     pub block-ports : valueOk (b .kind) (b .value) ≡ true → portsOk (b .ports) (i + o) channels ≡ blockOk b channels
     unfolding blockOk ins outs
-    block-ports v = rw (used (b .kind) (b .m) i o e .0, v, e)
+    block-ports v = rw (in-use (b .kind) (b .m) ∙ ap inUse e, v, e)
 
--- the counts of the table
+-- the counts as numbers
 module _ (b : Block) (i o : ℕ) (e : portsOf (b .kind) (b .m) ≡ Count i o) where
   pub ins-of : i ≡ ins b
   unfolding ins
@@ -43,15 +42,11 @@ module _ (b : Block) (i o : ℕ) (e : portsOf (b .kind) (b .m) ≡ Count i o) wh
 
 -- ## The sides
 
-total-is : (p : Ports) → total p ≡ inputCount p + outputCount p
-total-is (Count i o) = refl
-total-is Unused = refl
-
 module _ (b : Block) where
   -- a block has at most ten ports
   pub ports-ten : ins b + outs b ≤ 10
   unfolding ins outs
-  ports-ten = omega (arith, total-is (portsOf (b .kind) (b .m)), total-small (b .kind) (b .m))
+  ports-ten = ten-ports (b .kind) (b .m)
 
   pub ins-small : ins b ≤ 10
   ins-small = omega (arith, ports-ten)

@@ -12,12 +12,14 @@ ghost use Rattle.nets.specs.Rows.{rowIsKind, Row, RowOf, Wrote, ReadAs, 
 use crate::Block;
 use crate::Net;
 use blocks::Ports;
+use blocks::kinds;
 
-// A used port names a channel below the count; an unused one is 0.
+// A used port names a channel below the count; an unused one is 0, the only number below 1.
 fn port_ok(port: u8, used: bool, channels: u8) -> bool
     ensures { λ r. ⌜ r ≡ portOk port used channels ⌝ }
 {
-    if used { port < channels } else { port == 0 }
+    let limit = kinds::either(used, channels, 1);
+    port < limit
 }
 
 // The first n ports name channels, and the rest are 0.
@@ -39,7 +41,7 @@ fn ports_ok(ports: [u8; 10], n: u8, channels: u8) -> bool
 fn value_ok(kind: u8, value: u32) -> bool
     ensures { λ r. ⌜ r ≡ valueOk kind value ⌝ }
 {
-    if blocks::kinds::has_value(kind) {
+    if kinds::has_value(kind) {
         return true;
     }
     value == 0
@@ -102,7 +104,7 @@ fn read_block(b: Block, i: usize, channels: u8, rows: &mut [u8; 832]) -> bool
     requires { ⌜ length (now rows) ≡ 832 ⌝ }
     ensures { λ r. ⌜ ReadAs (blockOk b channels) true r b i (now (rows .entry)) (now (rows .exit)) ⌝ }
 {
-    let p = blocks::kinds::ports_of(b.kind, b.m);
+    let p = kinds::ports_of(b.kind, b.m);
     match p {
         Ports::Unused => false,
         Ports::Count(inputs, outputs) => {

@@ -13,11 +13,9 @@ use lib.Dec.{leb, ltb}
 use borrow.Author.Tests.{le-leb, lt-leb, leb-true, ltb-true, lt-ltb}
 use Rattle.reader.specs.Bits.{bits, number, bitsOf}
 use Rattle.reader.proofs.Bits.{length-bits, length-bitsOf, bits-number, number-bits, number-take-lt}
-use Rattle.blocks.specs.Ports.{mOk, portsOf, inputCount, outputCount, hasValue}
-use Rattle.blocks.specs.declared.Ports.{Ports}
-use Rattle.blocks.specs.declared.Ports.the-variants.{Count, Unused}
+use Rattle.blocks.specs.Ports.{mOk, hasValue}
 use Rattle.blocks.proofs.Folds.{clash, and-1, and-2}
-use Rattle.blocks.proofs.PortTable.{total, total-small, wide-m, unused}
+use Rattle.blocks.proofs.Counts.{m-most, ten-ports}
 use Rattle.nets.specs.declared.Block.{Block}
 use Rattle.nets.specs.declared.Net.{Net}
 use Rattle.stored.specs.Form.{portCount, padded, zeroBlock, Taken, got, refused, andThen, check, takeField, takeTested, between, takeMany, takePort, takeValue, takeRest, takeValued, takeBlock, takeBlocks, takeCounts, takeNet, blank, blankEnd, loaded, denied, finish, parse, putField, putMany, putValue, putValued, putBlock, putNet, encode, bytesOf, pack, formOf}
@@ -53,16 +51,12 @@ kind-small k m t = elim (decLt 10 k) [ yes h ↦ clash t (far h) | no h ↦ omeg
     far h = rw (lt-leb k 1 (omega arith), lt-leb k 3 (omega arith), lt-leb k 7 (omega arith), lt-leb k 10 h)
 
 pub m-small : (k m : ℕ) → mOk k m ≡ true → m < 16
-m-small k m t = elim (decLt 15 m) [ yes h ↦ clash t (unused k m (wide-m k m h)) | no h ↦ omega arith ]
+m-small k m t = omega (arith, m-most m k t)
 
 -- no block has over 10 ports
 pub portCount-le : (kind m : ℕ) → portCount kind m ≤ 10
 unfolding portCount
-portCount-le kind m = go (portsOf kind m) (total-small kind m)
-  where
-    go : (p : Ports) → total p ≤ 10 → inputCount p + outputCount p ≤ 10
-    go (Count i o) h = h
-    go Unused h = h
+portCount-le kind m = ten-ports kind m
 
 -- ## Codecs
 

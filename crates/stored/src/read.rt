@@ -83,10 +83,13 @@ fn read_m(form: &[u8], at: usize, kind: u32) -> Tested
 {
     match reader::step_from(form, at, 4) {
         Step::End => Tested::Refused(1),
-        Step::Got(m, _) => match kinds::ports_of(kind as u8, m as u8) {
-            Ports::Unused => Tested::Refused(5),
-            Ports::Count(_, _) => Tested::Good(m),
-        },
+        Step::Got(m, _) => {
+            if kinds::takes(kind as u8, m as u8) {
+                Tested::Good(m)
+            } else {
+                Tested::Refused(5)
+            }
+        }
     }
 }
 

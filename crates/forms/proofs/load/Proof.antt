@@ -11,8 +11,8 @@ read-net-requires c κs = search needs
 
 returns : tie.Need-returns
 returns c =
-    let x = c .before .before .read-net in
-    load-refused _ (x .result) (x .ensures) (c .if1 .taken)
+    let found = c .before .before .read-net in
+    load-refused _ (found .result) (found .ensures) (c .if1 .taken)
 
 plan-of-requires : tie.Need-plan-of-requires
 plan-of-requires c κs = search needs
@@ -25,19 +25,26 @@ refused-load-requires c κs = search needs
 
 returns-2 : tie.Need-returns-2
 returns-2 c =
-    let x = c .before .before .before .before .before .before .before .read-net in
-    let p = c .before .before .before .plan-of in
-    let k = c .before .before .number in
-    load-judged _ (x .result) (x .ensures) (c .before .before .before .before .before .if1 .left) (p .result .verdict) (p .ensures .right) _
-    (c .refused-load .ensures ∙ judged-denied (k .result) _ (x .result .net) (k .ensures) (c .before .if2 .taken))
+    let at-if2 = c .before in
+    let at-number = at-if2 .before in
+    let at-plan = at-number .before in
+    let at-if1 = at-plan .before in
+    let found = at-if1 .before .before .read-net in
+    let plan = at-plan .plan-of in
+    let number = at-number .number in
+    load-judged _ (found .result) (found .ensures) (at-if1 .if1 .left) (plan .result .verdict) (plan .ensures .right) _
+    (c .refused-load .ensures ∙ judged-denied (number .result) _ (found .result .net) (number .ensures) (at-if2 .if2 .taken))
 
 returns-3 : tie.Need-returns-3
 returns-3 c =
-    let x = c .before .before .before .before .before .before .read-net in
-    let p = c .before .before .plan-of in
-    let k = c .before .number in
-    let z = c .before .before .before .before .if1 .left in
-    load-judged _ (x .result) (x .ensures) z (p .result .verdict) (p .ensures .right) _ (judged-good (x .result) _ z (sym (k .ensures) ∙ c .if2 .left))
+    let at-number = c .before in
+    let at-plan = at-number .before in
+    let at-if1 = at-plan .before in
+    let found = at-if1 .before .before .read-net in
+    let plan = at-plan .plan-of in
+    let good = at-if1 .if1 .left in
+    load-judged _ (found .result) (found .ensures) good (plan .result .verdict) (plan .ensures .right) _
+    (judged-good (found .result) _ good (sym (at-number .number .ensures) ∙ c .if2 .left))
 
 pub load-spec : {M : Type 1} → statement M
 load-spec =

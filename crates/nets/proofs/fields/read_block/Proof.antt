@@ -4,7 +4,7 @@ use mathlib.Core.Path.{sym, _∙_}
 use native.Mathlib.Omega.{arith}
 use borrow.Author.Needs.{needs}
 use borrow.Author.Tests.{not-true, not-false}
-use Rattle.blocks.proofs.PortTable.{count-small}
+use Rattle.blocks.proofs.Counts.{count-small}
 use Rattle.nets.proofs.Blocks.{block-unused, block-value, block-ports}
 use Rattle.nets.proofs.Rows.{read-none, row-of}
 use Rattle.nets.proofs.fields.read_block.Statement.{statement}
