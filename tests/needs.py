@@ -22,12 +22,12 @@ def said(*command):
 
 
 def sections(library):
-    """The sections that are loaded, by sort: name and bytes."""
+    """The sections that are loaded, by sort: name and bytes, summed where several objects have one of that name."""
     found = {sort: {} for sort in SORTS}
     for name, size in re.findall(r"^(\.\S+)\s+(\d+)\s+\d+$", said("size", "-A", library), re.M):
         sort = next((sort for sort, pattern in SORTS.items() if re.match(pattern, name)), None)
         if sort and int(size):
-            found[sort][name] = int(size)
+            found[sort][name] = found[sort].get(name, 0) + int(size)
     return found
 
 
@@ -36,6 +36,8 @@ def frames(library):
     functions, f = {}, None
     for line in said("objdump", "-dr", "--no-show-raw-insn", library).splitlines():
         head = re.match(r"[0-9a-f]+ <(.+)>:$", line)
+        if head and head.group(1) in functions:
+            sys.exit(f"two functions are called {head.group(1)}, so it is not known which one is called")
         if head:
             f = functions[head.group(1)] = {"frame": RETURN_ADDRESS, "opened": False, "pushed": 0, "below": 0, "calls": []}
         elif f is not None:
