@@ -1,5 +1,6 @@
 # make run FORM=examples/add5.form: runs a stored net for 6 cycles and prints each delivery.
 # make placements FORM=examples/circle.form: lists where buffers may go in a stored net of at most 6 channels.
+# make bays: steps two bays of one net, of which one stalls, and uses up the allowance of cycles.
 # make lib: the proved library and its header, in build/. make bench: its speed beside plain C.
 # make soak NETS=1000000 SEED=2: the library against the model over so many random nets, with a line of progress every ten seconds.
 # make test: every crate proved from nothing, the must-fail edits and the programs, then the host tests on the library. Its last line is 'N passed, 0 failed'.
@@ -8,6 +9,7 @@ LIB = build/libwhemdrosk.a
 NETRUN = target/bin/netrun
 NETPLACE = target/bin/netplace
 PLACETRY = target/bin/placetry
+BAYTRY = target/bin/baytry
 SOURCES := crates.txt $(shell find crates -name '*.rt' -o -name '*.antt')
 
 NETS = 1000000
@@ -16,7 +18,7 @@ SEED = 2
 CORES := $(shell nproc 2> /dev/null || echo 2)
 export RT_JOBS ?= $(shell echo $$((2 * $(CORES))))
 
-.PHONY: test host lib run placements soak bench clean
+.PHONY: test host lib run placements bays soak bench clean
 # Two runs of rt at once would share target/.
 .NOTPARALLEL:
 
@@ -30,14 +32,16 @@ test:
 	@tools/dearest
 	@tail -n 1 build/ci.log
 
-# The pages; the library against a model in C, broken stand-ins that the comparison has to catch, the README's program, netrun on the examples; the placements likewise; what
-# the library needs of memory.
-host: $(LIB) $(NETRUN) $(NETPLACE) $(PLACETRY)
+# The pages; the library against a model in C, broken stand-ins that the comparison has to catch, the README's program, netrun on the examples; the placements and the
+# bays likewise; what the library needs of memory.
+host: $(LIB) $(NETRUN) $(NETPLACE) $(PLACETRY) $(BAYTRY)
 	tools/timed "the pages" $(MAKE) --no-print-directory -C tests pages
 	tools/timed "library and model" $(MAKE) --no-print-directory -C tests check LIB=../$(LIB)
 	tools/timed "broken stand-ins" $(MAKE) --no-print-directory -j$(CORES) -C tests mutants watchdog
 	tools/timed "placements and model" $(MAKE) --no-print-directory -C tests placements NETPLACE=../$(NETPLACE) PLACETRY=../$(PLACETRY)
 	tools/timed "broken stand-ins of placements" $(MAKE) --no-print-directory -j$(CORES) -C tests place-mutants
+	tools/timed "bays and model" $(MAKE) --no-print-directory -C tests bays BAYTRY=../$(BAYTRY)
+	tools/timed "broken stand-ins of bays" $(MAKE) --no-print-directory -j$(CORES) -C tests bay-mutants
 	tools/timed "the README's program" $(MAKE) --no-print-directory -C tests readme LIB=../$(LIB) HEADER=../build/whemdrosk.h
 	tools/timed "netrun on the examples" $(MAKE) --no-print-directory -C tests netrun NETRUN=../$(NETRUN)
 	tools/timed "what the library needs" $(MAKE) --no-print-directory -C tests needs LIB=../$(LIB)
@@ -58,6 +62,10 @@ run placements:
 	@test -r "$(FORM)" -a ! -d "$(FORM)" || { echo "make $@: cannot read $(FORM)" >&2; exit 2; }
 	@$(MAKE) --no-print-directory -s $(PROGRAM)
 	@$(PROGRAM) "$(FORM)"
+
+bays:
+	@$(MAKE) --no-print-directory -s $(BAYTRY)
+	@$(BAYTRY)
 
 target/bin/%: $(SOURCES)
 	@tools/proved $*

@@ -1,16 +1,14 @@
 // Compares the programs netplace and placetry with the model: the list and every placement of small nets, forms that are refused, codes of larger nets.
 // usage: placing NETPLACE PLACETRY FORM [SEED [NETS]] (forms are written to the file FORM; one for which an answer differs stays there)
-#define _POSIX_C_SOURCE 200809L
+#include "comparing.h"
 #include "placements.h"
-#include "programs.h"
 #include "spoil.h"
 #include <stdlib.h>
 #include <string.h>
 
-enum { NETS = 60, SPOILT = 4, MANY_SOURCES = 4, WIDE_NETS = 24, SINGLES = 400, CODE_ROOM = 70000, CLASS_ROOM = 16 };
+enum { NETS = 60, SPOILT = 4, MANY_SOURCES = 4, WIDE_NETS = 24, SINGLES = 400, CODE_ROOM = 70000 };
 
 static char *netplace, *placetry, *form_file;
-static uint64_t first_seed = 1;
 
 // A form on trial, the net that it was drawn from, and where it comes from.
 struct subject {
@@ -20,32 +18,15 @@ struct subject {
     struct form form;
 };
 
-static struct random random_for(unsigned class, unsigned i)
-{
-    uint64_t first = (first_seed * 64 + class) << 32 | i;
-    return (struct random){first, first};
-}
-
 static void name_subject(struct subject *s, const char *class, const struct random *r)
 {
     s->class = class;
     s->seed = r->first;
 }
 
-// ---- Counts
+// ---- Comparing
 
-static struct { const char *name; unsigned long runs, lines; } classes[CLASS_ROOM];
-static unsigned long refused[256], placements, listed, all_lines;
-
-static void count_run(const char *class, unsigned long lines)
-{
-    unsigned i = 0;
-    while (i < CLASS_ROOM - 1 && classes[i].name && strcmp(classes[i].name, class) != 0) i++;
-    classes[i].name = class;
-    classes[i].runs++;
-    classes[i].lines += lines;
-    all_lines += lines;
-}
+static unsigned long placements, listed;
 
 // Counts the refusal in a line of the model's, if there is one.
 static void count_refusal(const char *line, size_t len)
@@ -53,92 +34,31 @@ static void count_refusal(const char *line, size_t len)
     unsigned refusal;
     size_t digits = strspn(line, "0123");
     const char *rest = digits < len && line[digits] == ' ' ? line + digits + 1 : line;
-    if (sscanf(rest, "refused %u", &refusal) == 1 && refusal < 256) refused[refusal]++;
+    if (sscanf(rest, "refused %u", &refusal) == 1) count_refused(refusal);
 }
 
-static void print_counts(void)
+static struct trial trial_of(const struct subject *s)
 {
-    printf("%-52s %8s %8s\n", "", "runs", "lines");
-    for (unsigned i = 0; i < CLASS_ROOM && classes[i].name; i++) printf("%-52s %8lu %8lu\n", classes[i].name, classes[i].runs, classes[i].lines);
-    printf("placements compared: %lu, listed: %lu\nrefusals met:", placements, listed);
-    for (unsigned i = 1; i < 256; i++)
-        if (refused[i]) printf(" %u: %lu", i, refused[i]);
-    printf("\n%lu passed, 0 failed\n", all_lines);
+    return (struct trial){s->class, s->seed, "form", s->form.bytes, s->form.len};
 }
-
-// ---- Comparing
-
-// What a report says of a run: the program with its arguments; of codes the first 400 are shown.
-static char call[8192];
 
 static void fail(const struct subject *s, const char *why)
 {
-    printf("DIFFERENT: %s: %s\nclass: %s\nseed: %llu\nform (%zu bytes):", call, why, s->class, (unsigned long long)s->seed, s->form.len);
-    for (size_t i = 0; i < s->form.len; i++) printf(" %02x", s->form.bytes[i]);
-    printf("\n%lu passed, 1 failed\n", all_lines);
-    exit(1);
+    struct trial trial = trial_of(s);
+    fail_trial(&trial, why);
 }
 
-static size_t line_length(const char *text)
+static void write_file(const struct subject *s)
 {
-    const char *end = strchr(text, '\n');
-    return end ? (size_t)(end - text) + 1 : strlen(text);
-}
-
-static void fail_line(const struct subject *s, unsigned long number, const char *want, const char *got, int signal)
-{
-    static char why[4096];
-    if (!*want) want = "nothing";
-    if (!*got) got = signal ? "nothing, as a signal ended the program" : "nothing";
-    snprintf(why, sizeof why, "line %lu: expected %.*s, got %.*s", number, (int)strcspn(want, "\n"), want, (int)strcspn(got, "\n"), got);
-    fail(s, why);
-}
-
-// Every line and what is behind the last; the line that differs is said.
-static void compare_lines(const struct subject *s, const char *want, const struct printed *printed)
-{
-    const char *got = printed->text;
-    unsigned long lines = 0;
-    while (*want || *got) {
-        size_t want_len = line_length(want), got_len = line_length(got);
-        lines++;
-        if (want_len != got_len || memcmp(want, got, want_len) != 0) fail_line(s, lines, want, got, printed->signal);
-        count_refusal(want, want_len);
-        want += want_len;
-        got += got_len;
-    }
-    if (got != printed->text + printed->len) fail(s, "a zero byte is printed");
-    if (printed->signal) fail(s, "the program is ended by a signal");
-    count_run(s->class, lines);
-}
-
-// The model's text, as it is made.
-static struct { char *bytes; size_t len; } model;
-
-static FILE *begin_model(void)
-{
-    FILE *out = open_memstream(&model.bytes, &model.len);
-    if (!out) exit(2);
-    return out;
+    struct trial trial = trial_of(s);
+    write_trial(&trial, form_file);
 }
 
 // Runs a program as the call says, and compares what it prints with what the model printed.
 static void finish(const struct subject *s, FILE *out, char *const *arguments, const char *input)
 {
-    static struct printed printed;
-    fclose(out);
-    run_program(arguments, input, &printed);
-    compare_lines(s, model.bytes, &printed);
-    free(model.bytes);
-}
-
-static void write_file(const struct subject *s)
-{
-    FILE *file = fopen(form_file, "wb");
-    if (!file || fwrite(s->form.bytes, 1, s->form.len, file) != s->form.len || fclose(file) != 0) {
-        perror(form_file);
-        exit(2);
-    }
+    struct trial trial = trial_of(s);
+    finish_trial(&trial, out, arguments, input, count_refusal);
 }
 
 // The list of a form, which is given by name or by standard input.
@@ -158,7 +78,7 @@ static void compare_all(const struct subject *s)
     finish(s, out, (char *[]){placetry, form_file, NULL}, NULL);
 }
 
-// Codes as a report shows them: in digits where they are codes, and else as numbers in brackets.
+// Codes as a report shows them: in digits where they are codes, and else as numbers in brackets. The first 400 are shown.
 static void name_codes(const uint8_t *codes, size_t count)
 {
     int at = snprintf(call, sizeof call, "placetry %s '", form_file);
@@ -326,9 +246,9 @@ static void try_small_nets(unsigned nets)
         draw_small(&r, channels, sort, &s.draft);
         write_form(&s.draft, &s.form);
         write_file(&s);
-        unsigned long before = all_lines;
+        unsigned long before = lines_compared();
         compare_list(&s, i / MOST_LISTED % 2);
-        take_notes(&s.draft, all_lines - before);
+        take_notes(&s.draft, lines_compared() - before);
         compare_all(&s);
     }
 }
@@ -587,19 +507,12 @@ static void try_room(void)
 
 // ---- All of it
 
-static void require(int met, const char *what)
-{
-    if (met) return;
-    printf("never met: %s\n0 passed, 1 failed\n", what);
-    exit(1);
-}
-
 static void require_refusals(void)
 {
     char what[40];
     for (unsigned refusal = 1; refusal <= TOO_MANY_CHANNELS; refusal++) {
         snprintf(what, sizeof what, "refusal %u", refusal);
-        require((refusal > 11 && refusal < BAD_CODES) || refused[refusal] > 0, what);
+        require((refusal > 11 && refusal < BAD_CODES) || times_refused(refusal) > 0, what);
     }
     require(by_blocks > 0, "room passed by blocks alone");
     require(by_channels > 0, "room passed by channels alone");
@@ -639,7 +552,9 @@ int main(int count, char **arguments)
     require_small_nets(nets);
     print_notes();
     printf("room passed by blocks alone: %lu, by channels alone: %lu, by codes that are wrong: %lu\n", by_blocks, by_channels, with_wrong_codes);
-    print_counts();
+    print_classes();
+    printf("placements compared: %lu, listed: %lu\n", placements, listed);
+    print_verdict();
     remove(form_file);
     return 0;
 }

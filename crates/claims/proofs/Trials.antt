@@ -60,10 +60,10 @@ line-in = (accepted-is line line-accepted, line-free)
 
 -- what the calls deliver, and choose, is what was worked out for an accepted net
 module _ (net : Net) (acc : accepted net ≡ true) (words ends : List ℕ) (masks : List (ℕ × ℕ)) where
-  as-accepted : (c : ℕ) → deliveredOf net words ends masks c ≡ delivered true net words ends masks c
+  pub as-accepted : (c : ℕ) → deliveredOf net words ends masks c ≡ delivered true net words ends masks c
   as-accepted c = sym (same-delivered net words ends masks c) ∙ ap (λ (ok : Bool). delivered ok net words ends masks c) acc
 
-  as-chosen : (b : ℕ) → choicesOf net words ends masks b ≡ choices true net words ends masks b
+  pub as-chosen : (b : ℕ) → choicesOf net words ends masks b ≡ choices true net words ends masks b
   as-chosen b = sym (same-chosen net words ends masks b) ∙ ap (λ (ok : Bool). choices ok net words ends masks b) acc
 
 pub line-delivers : (lineWords 0 ≡ 1 ∷ 2 ∷ 3 ∷ []) × (lineWords 1 ≡ 1 ∷ 2 ∷ 3 ∷ []) × (lineWords 2 ≡ 6 ∷ 7 ∷ 8 ∷ [])

@@ -1,0 +1,8 @@
+-- Laws of a record, of a bay's refusal, and of what a call does to one bay.
+pub mod Records
+pub mod Refusals
+pub mod Apart
+pub mod Kept
+-- The promises, proved, and instances of them.
+pub mod Theorems
+pub mod Trials

@@ -1,0 +1,4 @@
+-- What the public calls answer.
+pub mod Calls
+-- What is promised of lists of calls.
+pub mod Promised

@@ -1,0 +1,358 @@
+// Bays by a run. Without arguments: two bays over one net, of which one stalls; then the allowance, used up by a third one, and steps that are refused.
+// With a file: the calls that it lists. Its numbers have 4 bytes, most significant first: the bytes of a form, how many words, how many ends; then the form, the words, the ends; then
+// commands of three numbers each, a command and what it is given.
+ghost use mathlib.Core.Path.{_≡_};
+ghost use Prim.Native.Nat.{_+_, _*_, _≤_, _<_};
+ghost use lib.ListN.{length};
+use bays::BayStepped;
+use bays::Bays;
+use cycles::State;
+use libc::STDOUT_FILENO;
+use nets::Net;
+use trace::numbers::number_at;
+
+// The most words and ends of a file.
+const WORD_ROOM: usize = 256;
+
+const END_ROOM: usize = 64;
+
+// Commands below this one are steps of the bay of that number, given offer and ready; this one makes a fresh record.
+const FRESH: u32 = 256;
+// Sets the cycles used; the net's channels.
+const SET_USED: u32 = 257;
+
+const SET_CHANNELS: u32 = 258;
+// With a bay's number added: sets its count; given a block, its word or its marks.
+const SET_COUNT: u32 = 260;
+
+const SET_WORD: u32 = 264;
+
+const SET_MARKS: u32 = 268;
+
+fn print(text: &[u8], n: u64) {
+    io::write_all(STDOUT_FILENO, text);
+    io::print_decimal(STDOUT_FILENO, n);
+}
+
+fn print_word(text: &[u8], w: u32) {
+    print(text, w as u64);
+}
+
+fn print_byte(text: &[u8], b: u8) {
+    print(text, b as u64);
+}
+
+fn end_line() {
+    io::write_all(STDOUT_FILENO, b"\n");
+}
+
+// Prints the refusal of a bay's step, and channel and word of each delivery.
+fn show(bay: u8, stepped: BayStepped) {
+    print_byte(b"bay ", bay);
+    print_byte(b": refusal ", stepped.refusal);
+    let mut c: usize = 0;
+    while c < 128 {
+        if stepped.delivered[c] == 1 {
+            print(b" ", c as u64);
+            print_word(b"=", stepped.words[c]);
+        }
+        c += 1;
+    }
+    end_line();
+}
+
+// Prints a bay's count, and the registers of the blocks that have some.
+fn show_state(k: u64, state: State) {
+    print(b"state ", k);
+    print_word(b" count ", state.count);
+    let mut b: usize = 0;
+    while b < 64 {
+        if state.words[b] != 0 || state.marks[b] != 0 {
+            print(b" ", b as u64);
+            print_word(b"=", state.words[b]);
+            print_byte(b"/", state.marks[b]);
+        }
+        b += 1;
+    }
+    end_line();
+}
+
+fn show_record(bays: Bays) {
+    print_word(b"used ", bays.used);
+    end_line();
+    let mut k: usize = 0;
+    while k < 4 {
+        let state = bays.states[k];
+        show_state(k as u64, state);
+        k += 1;
+    }
+}
+
+// A step of a bay, shown.
+fn stepped(
+    net: Net,
+    bays: Bays,
+    bay: u8,
+    words: &[u32],
+    ends: &[u32],
+    offer: u32,
+    ready: u32,
+) -> Bays {
+    let answer = bays::step_bay(net, bays, bay, words, ends, offer, ready);
+    show(bay, answer);
+    answer.bays
+}
+
+// A fresh record, its refusal shown.
+fn begun(net: Net) -> Bays {
+    let fresh = bays::fresh_bays(net);
+    print_byte(b"fresh ", fresh.refusal);
+    end_line();
+    fresh.bays
+}
+
+// The record with another state of bay k.
+fn with_state(bays: Bays, k: usize, state: State) -> Bays
+    requires { ⌜ k < 4 ⌝ }
+{
+    let mut states = bays.states;
+    states[k] = state;
+    Bays {
+        states,
+        used: bays.used,
+    }
+}
+
+// The record with another count of bay k.
+fn with_count(bays: Bays, k: usize, count: u32) -> Bays
+    requires { ⌜ k < 4 ⌝ }
+{
+    let mut state = bays.states[k];
+    state.count = count;
+    with_state(bays, k, state)
+}
+
+// The record with another word register of bay k.
+fn with_word(bays: Bays, k: usize, block: usize, word: u32) -> Bays
+    requires { ⌜ (k < 4) × (block < 64) ⌝ }
+{
+    let mut state = bays.states[k];
+    let mut words = state.words;
+    words[block] = word;
+    state.words = words;
+    with_state(bays, k, state)
+}
+
+// The record with other marks of bay k.
+fn with_marks(bays: Bays, k: usize, block: usize, mark: u8) -> Bays
+    requires { ⌜ (k < 4) × (block < 64) ⌝ }
+{
+    let mut state = bays.states[k];
+    let mut marks = state.marks;
+    marks[block] = mark;
+    state.marks = marks;
+    with_state(bays, k, state)
+}
+
+// ---- A file of calls
+
+// The record after a command that changes one bay's state.
+fn changed(bays: Bays, op: u32, a: u32, b: u32) -> Bays {
+    let bay = op % 4;
+    let k = bay as usize;
+    let block = (a % 64) as usize;
+    let command = op - bay;
+    if command == SET_COUNT {
+        return with_count(bays, k, a);
+    }
+    if command == SET_WORD {
+        return with_word(bays, k, block, b);
+    }
+    if command == SET_MARKS {
+        return with_marks(bays, k, block, (b % 256) as u8);
+    }
+    bays
+}
+
+// The record after a command.
+fn obeyed(net: Net, bays: Bays, words: &[u32], ends: &[u32], op: u32, a: u32, b: u32) -> Bays {
+    if op < FRESH {
+        return stepped(net, bays, op as u8, words, ends, a, b);
+    }
+    if op == FRESH {
+        return begun(net);
+    }
+    if op == SET_USED {
+        let states = bays.states;
+        return Bays { states, used: a };
+    }
+    changed(bays, op, a, b)
+}
+
+// Obeys the commands from a fresh record on, and shows the record in the end.
+fn obey(loaded: Net, words: &[u32], ends: &[u32], commands: &[u8]) {
+    let mut net = loaded;
+    let mut bays = begun(net);
+    let count = commands.len() / 12;
+    let mut i: usize = 0;
+    while i < count {
+        let op = number_at(commands, 3 * i);
+        let a = number_at(commands, 3 * i + 1);
+        let b = number_at(commands, 3 * i + 2);
+        if op == SET_CHANNELS {
+            net.channels = (a % 256) as u8;
+        }
+        bays = obeyed(net, bays, words, ends, op, a, b);
+        i += 1;
+    }
+    show_record(bays);
+}
+
+// The first n numbers that bytes hold, then zeros.
+fn numbers_in(bytes: &[u8], n: usize) -> [u32; 256]
+    requires { ⌜ (n ≤ 256) × (4 * n ≤ length (now bytes)) ⌝ }
+    ensures { λ r. ⌜ 256 ≡ length r ⌝ }
+{
+    let mut numbers = [0u32; 256];
+    let mut i: usize = 0;
+    while i < n {
+        numbers[i] = number_at(bytes, i);
+        i += 1;
+    }
+    numbers
+}
+
+// Runs the calls of a file whose parts lie in it.
+fn run_parts(file: &[u8], form_len: usize, word_count: usize, end_count: usize)
+    requires { ⌜ («word_count» ≤ 256) × («end_count» ≤ 64) × (12 + «form_len» + 4 * «word_count» + 4 * «end_count» ≤ length (now file)) ⌝ }
+{
+    let words_at = 12 + form_len;
+    let ends_at = words_at + 4 * word_count;
+    let commands_at = ends_at + 4 * end_count;
+    let words = numbers_in(&file[words_at..ends_at], word_count);
+    let ends = numbers_in(&file[ends_at..commands_at], end_count);
+    let loaded = forms::load(&file[12..words_at]);
+    print_byte(b"load ", loaded.refusal);
+    end_line();
+    let net = loaded.net;
+    obey(
+        net,
+        &words[..word_count],
+        &ends[..end_count],
+        &file[commands_at..],
+    );
+}
+
+fn say_bad() {
+    io::write_all(STDOUT_FILENO, b"bad case\n");
+}
+
+// Runs the calls of a file.
+fn run_file(file: &[u8]) {
+    if file.len() < 12 {
+        say_bad();
+        return;
+    }
+    let form_len = number_at(file, 0) as usize;
+    let word_count = number_at(file, 1) as usize;
+    let end_count = number_at(file, 2) as usize;
+    if WORD_ROOM < word_count {
+        say_bad();
+        return;
+    }
+    if END_ROOM < end_count {
+        say_bad();
+        return;
+    }
+    if file.len() < 12 + form_len + 4 * word_count + 4 * end_count {
+        say_bad();
+        return;
+    }
+    run_parts(file, form_len, word_count, end_count);
+}
+
+// ---- Two bays, and the allowance
+
+// The ready mask of bay 1: its second sink refuses in cycles 1 to 3.
+fn ready_in(cycle: u64) -> u32 {
+    match cycle {
+        1 => 1,
+        2 => 1,
+        3 => 1,
+        _ => 3,
+    }
+}
+
+// Bays 0 and 1 in turn for six cycles; nothing stalls in bay 0.
+fn two_bays(net: Net, words: &[u32], ends: &[u32]) -> Bays {
+    let mut bays = begun(net);
+    let mut cycle: u64 = 0;
+    while cycle < 6 {
+        bays = stepped(net, bays, 0, words, ends, 1, 3);
+        bays = stepped(net, bays, 1, words, ends, 1, ready_in(cycle));
+        cycle += 1;
+    }
+    bays
+}
+
+// A record in which bay 2 has used all but one of the cycles that the others left: bay 3 gets the last one, and then every bay is refused.
+fn last_cycle(net: Net, bays: Bays, words: &[u32], ends: &[u32]) {
+    let busy = with_count(bays, 2, 1048576 - 13);
+    let states = busy.states;
+    let near = Bays {
+        states,
+        used: 1048575,
+    };
+    let full = stepped(net, near, 3, words, ends, 1, 3);
+    let refused = stepped(net, full, 0, words, ends, 1, 3);
+    show_record(refused);
+}
+
+// A bay that is not there; a record whose cycles used are not the sum of its counts; ends that do not fit.
+fn refused_steps(net: Net, bays: Bays, words: &[u32], ends: &[u32]) {
+    stepped(net, bays, 4, words, ends, 1, 3);
+    let odd = with_count(bays, 2, 1);
+    stepped(net, odd, 0, words, ends, 1, 3);
+    stepped(net, bays, 0, words, words, 1, 3);
+}
+
+fn show_trials() {
+    let form = [
+        0x10u8,
+        0x00,
+        0x04,
+        0x03,
+        0x00,
+        0x00,
+        0x84,
+        0x00,
+        0x08,
+        0x21,
+        0x00,
+        0x22,
+        0x00,
+        0x80,
+    ];
+    let words = [10u32, 20, 30, 40];
+    let ends = [4u32];
+    let loaded = forms::load(&form);
+    let net = loaded.net;
+    let bays = two_bays(net, &words, &ends);
+    show_record(bays);
+    last_cycle(net, bays, &words, &ends);
+    refused_steps(net, bays, &words, &ends);
+}
+
+fn main() {
+    if os::arg_count() < 2 {
+        show_trials();
+        return;
+    }
+    let mut buf = io::buffer();
+    let file = input::read_form(b"baytry", &mut buf);
+    if file.failed {
+        return;
+    }
+    let n = file.bytes;
+    run_file(&buf[..n]);
+}

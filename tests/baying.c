@@ -1,0 +1,455 @@
+// Compares the program baytry with the model: four bays stepped in many orders, records that are spoilt, the allowance, faults together, refused forms.
+// usage: baying BAYTRY CASE [SEED [NETS [random]]] (cases are written to the file CASE; one for which an answer differs stays there; random: without the cases
+// by hand)
+#define _POSIX_C_SOURCE 200809L
+#include "bayscenes.h"
+#include "comparing.h"
+#include <stdlib.h>
+#include <string.h>
+
+// How many nets there are for each class, and how many show all that has to be met.
+enum { NETS = 100, FEWEST_NETS = 12 };
+
+static char *baytry, *case_file;
+
+// ---- Comparing
+
+// Steps and deliveries in the lines of the model's, by bay.
+static unsigned long steps[BAYS], deliveries[BAYS], fresh_refused, no_cases;
+
+static unsigned long equal_signs(const char *line, size_t len)
+{
+    unsigned long count = 0;
+    for (size_t i = 0; i < len; i++) count += line[i] == '=';
+    return count;
+}
+
+static void note_line(const char *line, size_t len)
+{
+    unsigned bay, refusal;
+    if (sscanf(line, "bay %u: refusal %u", &bay, &refusal) == 2) {
+        count_refused(refusal);
+        if (refusal) return;
+        steps[bay]++;
+        deliveries[bay] += equal_signs(line, len);
+    } else if (sscanf(line, "load %u", &refusal) == 1) count_refused(refusal);
+    else if (sscanf(line, "fresh %u", &refusal) == 1) fresh_refused += refusal != 0;
+    else no_cases += *line == 'b';
+}
+
+static struct trial trial_of(const struct scene *s)
+{
+    return (struct trial){s->class, s->seed, "case", s->bytes, s->len};
+}
+
+static void compare_case(const struct scene *s)
+{
+    struct trial trial = trial_of(s);
+    FILE *out = begin_model();
+    print_case(out, s->bytes, s->len);
+    write_trial(&trial, case_file);
+    snprintf(call, sizeof call, "baytry %s", case_file);
+    finish_trial(&trial, out, (char *[]){baytry, case_file, NULL}, NULL, note_line);
+}
+
+// ---- Good steps
+
+// All bays alike, or one of them more often.
+static void in_random_order(struct scene *s, struct random *r, unsigned i)
+{
+    unsigned often = below(r, BAYS), count = chance(r, 2) ? commands_left(s) : below(r, commands_left(s) + 1);
+    for (unsigned n = 0; n < count; n++) step(s, i % 3 == 0 && chance(r, 2) ? often : below(r, BAYS));
+}
+
+// Some steps of one bay, then some of another.
+static void in_bursts(struct scene *s, struct random *r, unsigned i)
+{
+    while (commands_left(s) > 0) {
+        unsigned bay = below(r, BAYS), count = 1 + below(r, i % 2 ? 6 : 40);
+        for (unsigned n = 0; n < count; n++) step(s, bay);
+    }
+}
+
+// Offers, readiness or both are taken from some cycles of a bay.
+static void stall(struct scene *s, unsigned bay, unsigned way, size_t from, size_t to)
+{
+    for (size_t c = from; c < to; c++) {
+        if (way != 1) s->masks[bay][2 * c] = 0;
+        if (way != 0) s->masks[bay][2 * c + 1] = 0;
+    }
+}
+
+// One bay is stalled while the others go on; from some cycle on it goes on itself, and another one is stalled.
+static void with_a_stall(struct scene *s, struct random *r, unsigned i)
+{
+    unsigned bay = below(r, BAYS), other = (bay + 1 + below(r, BAYS - 1)) % BAYS;
+    size_t change = 5 + below(r, 40);
+    stall(s, bay, i % 3, 0, change);
+    stall(s, other, below(r, 3), change, MASK_CYCLES);
+    step_some(s, r, commands_left(s));
+}
+
+// Every bay has the same masks, so that all deliver the same, each in its own time.
+static void with_the_same_masks(struct scene *s, struct random *r, unsigned i)
+{
+    for (unsigned k = 1; k < BAYS; k++) memcpy(s->masks[k], s->masks[0], sizeof s->masks[0]);
+    if (i % 2) in_bursts(s, r, i);
+    else step_some(s, r, commands_left(s));
+}
+
+// One bay alone, which uses up its streams; then a step of each.
+static void one_alone(struct scene *s, struct random *r, unsigned i)
+{
+    unsigned count = below(r, commands_left(s));
+    for (unsigned n = 0; n < count; n++) step(s, i % BAYS);
+    step_each(s);
+}
+
+// ---- Numbers of no bay, and numbers of no command
+
+static void with_no_bays(struct scene *s, struct random *r, unsigned i)
+{
+    unsigned bays[LAST_STEP + 1];
+    (void)i;
+    shuffle(r, LAST_STEP + 1, bays);
+    for (unsigned n = 0; n <= LAST_STEP; n++) {
+        step(s, bays[n]);
+        if (chance(r, 8)) step(s, below(r, BAYS));
+    }
+}
+
+// Numbers whose last byte or last two bytes are a command, and those that stand beside commands.
+static uint32_t no_command(struct random *r)
+{
+    switch (below(r, 5)) {
+    case 0: return 259;
+    case 1: return NO_COMMAND + below(r, 16);
+    case 2: return 256 * (2 + below(r, 254)) + below(r, BAYS);
+    case 3: return 65536 * (1 + below(r, 65535)) + (chance(r, 2) ? below(r, BAYS) : FRESH_RECORD + below(r, 16));
+    default: return 0x80000000 | random_bits(r);
+    }
+}
+
+static void with_no_commands(struct scene *s, struct random *r, unsigned i)
+{
+    (void)i;
+    while (commands_left(s) > 0) {
+        add(s, no_command(r), below(r, 70), random_bits(r));
+        step_some(s, r, below(r, 3));
+    }
+}
+
+// ---- Records that are spoilt
+
+// After each change, steps of the bay that it is in and of others; then both registers are 0, which is in shape for every kind.
+static void with_registers_set(struct scene *s, struct random *r, unsigned i)
+{
+    (void)i;
+    step_some(s, r, below(r, 20));
+    while (commands_left(s) > 0) {
+        unsigned bay = below(r, BAYS), block = spoil_registers(s, r, bay);
+        if (chance(r, 2)) step(s, bay);
+        step_some(s, r, 1 + below(r, 3));
+        set_registers(s, r, bay, block, 0, 0);
+        step(s, below(r, BAYS));
+    }
+}
+
+static void with_counts_set(struct scene *s, struct random *r, unsigned i)
+{
+    static const uint32_t none[BAYS] = {0};
+    for (unsigned n = i; commands_left(s) > 0; n++) {
+        step_some(s, r, below(r, 6));
+        spoil_counts(s, r, n % COUNT_FAULTS);
+        if (chance(r, 4)) step_each(s);
+        else step_some(s, r, 1 + below(r, 3));
+        if (chance(r, 2)) add(s, FRESH_RECORD, 0, 0);
+        else set_counts(s, none, 0);
+    }
+}
+
+// ---- The allowance
+
+// Some cycles are left, and more steps follow than that: of one bay, or of any; at times a number of no bay is among them.
+static void near_the_allowance(struct scene *s, struct random *r, unsigned i)
+{
+    uint32_t counts[BAYS];
+    while (commands_left(s) > 0) {
+        unsigned left = below(r, i % 2 ? 3 : 8), bay = below(r, BAYS), alone = chance(r, 3);
+        if (!chance(r, 3)) add(s, FRESH_RECORD, 0, 0);
+        step_some(s, r, below(r, 4));
+        split(r, ALLOWANCE - left, counts);
+        set_counts(s, counts, ALLOWANCE - left);
+        for (unsigned n = 0; n < left + 3; n++) {
+            step(s, alone ? bay : below(r, BAYS));
+            if (chance(r, 12)) step(s, BAYS + below(r, 252));
+        }
+    }
+}
+
+// ---- Several faults at once
+
+enum { WITH_NO_BAY = 1, WITH_BAD_NET = 2, WITH_BAD_RECORD = 4, WITH_ALLOWANCE_USED = 8, SETS_OF_FAULTS = 16 };
+
+// Two steps with a set of faults, of bays whose own state may be the spoilt one or not.
+static void add_faults(struct scene *s, struct random *r, unsigned faults)
+{
+    uint32_t counts[BAYS];
+    add(s, FRESH_RECORD, 0, 0);
+    step(s, below(r, BAYS));
+    split(r, ALLOWANCE, counts);
+    if (faults & WITH_ALLOWANCE_USED) set_counts(s, counts, ALLOWANCE);
+    if (faults & WITH_BAD_RECORD) spoil_record(s, r);
+    if (faults & WITH_BAD_NET) add(s, SET_CHANNELS, other_channels(r, &s->draft), 0);
+    for (unsigned n = 0; n < 2; n++) step(s, faults & WITH_NO_BAY ? BAYS + below(r, chance(r, 2) ? 4 : 252) : below(r, BAYS));
+    add(s, SET_CHANNELS, s->draft.channels, 0);
+}
+
+static void with_several_faults(struct scene *s, struct random *r, unsigned i)
+{
+    unsigned order[SETS_OF_FAULTS];
+    (void)i;
+    shuffle(r, SETS_OF_FAULTS, order);
+    for (unsigned n = 0; n < SETS_OF_FAULTS; n++) add_faults(s, r, order[n]);
+    step_some(s, r, below(r, 10));
+}
+
+// ---- Nets that are refused, and fresh records
+
+// The zero net is refused whatever is set; what is set stays in the record until a fresh one is asked for.
+static void with_all_set(struct scene *s, struct random *r, unsigned i)
+{
+    for (unsigned n = 0; n < 12; n++) {
+        step_some(s, r, 1 + below(r, 2));
+        if (chance(r, 2)) step(s, BAYS + below(r, 252));
+        if (chance(r, 4)) add(s, SET_CHANNELS, s->draft.channels, 0);
+        if (chance(r, 4)) spoil_counts(s, r, below(r, COUNT_FAULTS));
+        if (chance(r, 4)) set_registers(s, r, below(r, BAYS), below(r, 64), random_bits(r), below(r, 256));
+        if (chance(r, i % 2 ? 6 : 60)) add(s, FRESH_RECORD, 0, 0);
+    }
+}
+
+// The channel count is another one for some steps, and then the net's own again, at times with 256 more.
+static void with_channels_set(struct scene *s, struct random *r, unsigned i)
+{
+    while (commands_left(s) > 0) {
+        step_some(s, r, below(r, 12));
+        add(s, SET_CHANNELS, other_channels(r, &s->draft) + 256 * (chance(r, 4) ? below(r, 1000) : 0), 0);
+        step_some(s, r, 1 + below(r, 2));
+        if (chance(r, i % 2 ? 2 : 8)) add(s, FRESH_RECORD, 0, 0);
+        if (chance(r, 6)) step(s, BAYS + below(r, 252));
+        add(s, SET_CHANNELS, s->draft.channels + 256 * (chance(r, 4) ? below(r, 1000) : 0), 0);
+    }
+}
+
+static void with_fresh_records(struct scene *s, struct random *r, unsigned i)
+{
+    while (commands_left(s) > 0) {
+        step_some(s, r, below(r, 20));
+        if (i % 2 && chance(r, 3)) spoil_counts(s, r, below(r, COUNT_FAULTS));
+        add(s, FRESH_RECORD, 0, 0);
+    }
+}
+
+// ---- Files that are no case
+
+static void set_number(struct scene *s, unsigned i, uint32_t number)
+{
+    set_bits(s->bytes, 32 * i, 32, number);
+}
+
+// Ends within the header or the parts; a header that promises too much, or so much that sizes go round at 2^32; a rest that is no command, in a file that
+// is short or has all its room; nothing but zeros.
+enum { SHORT_HEADER, SHORT_PARTS, EXACT_PARTS, BIG_FORM, BIG_WORDS, BIG_ENDS, A_REST, ALL_ROOM, ZEROS, FILE_FAULTS };
+
+static void spoil_file(struct scene *s, struct random *r, unsigned i)
+{
+    size_t parts = s->len;
+    step_some(s, r, 1 + below(r, 5));
+    switch (i % FILE_FAULTS) {
+    case SHORT_HEADER: s->len = below(r, HEADER_BYTES); break;
+    case SHORT_PARTS: s->len = chance(r, 2) ? parts - 1 : HEADER_BYTES + below(r, (uint32_t)parts - HEADER_BYTES); break;
+    case EXACT_PARTS: s->len = parts; break;
+    case BIG_FORM: set_number(s, 0, ONE_OF(r, CASE_ROOM, 0xffffffff, 0xfffffff4, 0xfffffff0, 0x80000000, (uint32_t)s->len - HEADER_BYTES + 1)); break;
+    case BIG_WORDS: set_number(s, 1, ONE_OF(r, MOST_WORDS + 1, 0x40000000, 0x80000000, 0xffffffff, MOST_WORDS)); break;
+    case BIG_ENDS: set_number(s, 2, ONE_OF(r, MOST_ENDS + 1, 0x40000000, 0x80000000, 0xffffffff, MOST_ENDS)); break;
+    case A_REST: s->len -= 1 + below(r, COMMAND_BYTES - 1); break;
+    case ALL_ROOM:
+        step_some(s, r, commands_left(s));
+        while (s->len < CASE_ROOM) s->bytes[s->len++] = 0;
+        break;
+    default: memset(s->bytes, 0, s->len); break;
+    }
+}
+
+// ---- Cases by hand, for the model itself
+
+// The command of a step with all masks set.
+#define STEP(bay) {bay, ~0u, ~0u}
+
+// netrun's net: source, data buffer, add 5, sink. A source whose word a fork copies, so that a merge has it on both inputs; sinks for its two outputs.
+static const struct drawn netrun[] = {{SOURCE, 0, 0, {0}}, {DATA, 0, 0, {0, 1}}, {CONSTANT, 0, 5, {1, 2}}, {SINK, 0, 0, {2}}};
+static const struct drawn doubled[] = {{SOURCE, 0, 0, {0}}, {FORK, 2, 0, {0, 1, 2}}, {MERGE, 2, 0, {1, 2, 3, 4}}, {SINK, 0, 0, {3}}, {SINK, 0, 0, {4}}};
+
+// A net that is known, with the words 1, 2, 3; three numbers for each command; and what is printed.
+struct known {
+    const struct drawn *block;
+    unsigned blocks, channels, count;
+    uint32_t commands[18][3];
+    const char *text;
+};
+
+static const struct known by_hand[] = {
+    // Two bays, each with its own words; no fifth bay.
+    {netrun, 4, 3, 7, {STEP(0), STEP(0), STEP(2), STEP(0), {1, 0, ~0u}, STEP(4), STEP(2)},
+     "load 0\nfresh 0\nbay 0: refusal 0 0=1\nbay 0: refusal 0 0=2 1=1 2=6\nbay 2: refusal 0 0=1\nbay 0: refusal 0 0=3 1=2 2=7\nbay 1: refusal 0\n"
+     "bay 4: refusal 21\nbay 2: refusal 0 0=2 1=1 2=6\nused 6\nstate 0 count 3 0=3/0 1=3/1\nstate 1 count 1\nstate 2 count 2 0=2/0 1=2/1\nstate 3 count 0\n"},
+    // One cycle is left for all: the bay that comes second does not get it, though it has made no step.
+    {netrun, 4, 3, 9, {{SET_USED, ALLOWANCE - 1, 0}, {SET_COUNT + 3, ALLOWANCE - 1, 0}, STEP(1), STEP(0), STEP(3), {SET_COUNT + 3, ALLOWANCE, 0}, STEP(0),
+      {FRESH_RECORD, 0, 0}, STEP(0)},
+     "load 0\nfresh 0\nbay 1: refusal 0 0=1\nbay 0: refusal 16\nbay 3: refusal 16\nbay 0: refusal 13\nfresh 0\nbay 0: refusal 0 0=1\nused 1\n"
+     "state 0 count 1 0=1/0 1=1/1\nstate 1 count 0\nstate 2 count 0\nstate 3 count 0\n"},
+    // What is wrong in one bay is refused in another; the number of the bay comes before the net, the net before the record.
+    {netrun, 4, 3, 16, {{SET_WORD + 2, 1, 9}, STEP(0), {SET_MARKS + 2, 1, 1}, STEP(0), STEP(2), {SET_MARKS + 1, 4, 1}, STEP(0), {SET_CHANNELS, 2, 0}, STEP(0),
+      STEP(255), {SET_CHANNELS, 3, 0}, {SET_MARKS + 1, 4, 0}, {SET_USED, 1, 0}, STEP(1), {SET_USED, 2, 0}, STEP(2)},
+     "load 0\nfresh 0\nbay 0: refusal 13\nbay 0: refusal 0 0=1\nbay 2: refusal 0 0=1 1=9 2=14\nbay 0: refusal 13\nbay 0: refusal 12\nbay 255: refusal 21\n"
+     "bay 1: refusal 13\nbay 2: refusal 0 0=2 1=1 2=6\nused 3\nstate 0 count 1 0=1/0 1=1/1\nstate 1 count 0\nstate 2 count 2 0=2/0 1=2/1\nstate 3 count 0\n"},
+    // Without masks nothing moves, but it counts; with a ready mask alone a word that is held goes on.
+    {netrun, 4, 3, 6, {{3, 0, 0}, {3, ~0u, 0}, {3, ~0u, 0}, {3, 0, 0}, {3, 0, 1}, {3, 0, 1}},
+     "load 0\nfresh 0\nbay 3: refusal 0\nbay 3: refusal 0 0=1\nbay 3: refusal 0\nbay 3: refusal 0\nbay 3: refusal 0 0=2 1=1 2=6\nbay 3: refusal 0 1=2 2=7\n"
+     "used 6\nstate 0 count 0\nstate 1 count 0\nstate 2 count 0\nstate 3 count 6 0=2/0\n"},
+    // The shape of forks and merges: marks 2 of a fork of 2, then 3; winner 3 of 2, then marks 3; winner 2 whose report has gone; marks without a winner.
+    // A source's position may be any number.
+    {doubled, 5, 5, 17, {{SET_MARKS, 1, 2}, STEP(1), {SET_MARKS, 1, 3}, STEP(1), {SET_MARKS, 1, 0}, {SET_WORD, 2, 3}, STEP(1), {SET_WORD, 2, 2},
+      {SET_MARKS, 2, 3}, STEP(1), {SET_MARKS, 2, 2}, STEP(0), {SET_MARKS + 3, 2, 1}, STEP(0), {SET_MARKS + 3, 2, 0}, {SET_WORD + 3, 0, 77}, STEP(3)},
+     "load 0\nfresh 0\nbay 1: refusal 0 1=1 3=1 4=0\nbay 1: refusal 13\nbay 1: refusal 13\nbay 1: refusal 13\nbay 0: refusal 0 2=1 3=1\nbay 0: refusal 13\n"
+     "bay 3: refusal 0\nused 3\nstate 0 count 1 0=0/1 1=0/2\nstate 1 count 1 0=0/1 1=0/1\nstate 2 count 0\nstate 3 count 1 0=77/0\n"},
+};
+
+static void compare_by_hand(const struct scene *s, const struct known *known)
+{
+    struct trial trial = trial_of(s);
+    static char text[4096];
+    FILE *out = fmemopen(text, sizeof text, "w");
+    print_case(out, s->bytes, s->len);
+    fclose(out);
+    snprintf(call, sizeof call, "the model");
+    if (strcmp(text, known->text) != 0) fail_trial(&trial, "it differs from the case by hand");
+    compare_case(s);
+}
+
+static void write_known(struct scene *s, const struct known *known)
+{
+    s->draft.blocks = 0;
+    s->draft.channels = known->channels;
+    for (unsigned b = 0; b < known->blocks; b++) add_drawn(&s->draft, known->block[b].kind, known->block[b].m, known->block[b].value, known->block[b].port);
+    write_form(&s->draft, &s->form);
+    begin_case(s);
+    for (unsigned n = 0; n < known->count; n++) put_numbers(s, known->commands[n], 3);
+}
+
+static void try_by_hand(void)
+{
+    static struct scene s = {.class = "by hand", .words = {1, 2, 3}, .ends = {3}, .word_count = 3, .end_count = 1};
+    for (unsigned i = 0; i < sizeof by_hand / sizeof by_hand[0]; i++) {
+        write_known(&s, &by_hand[i]);
+        compare_by_hand(&s, &by_hand[i]);
+    }
+}
+
+// ---- All of it
+
+// The net with its streams, then the commands; and how many cases there are for each of the nets asked for.
+static const struct { const char *name; scene_rule *net, *commands; unsigned times; } classes[] = {
+    {"bays in random order", draw_small, in_random_order, 3},
+    {"bays in bursts", draw_small, in_bursts, 1},
+    {"one bay stalled, the others going on", draw_small, with_a_stall, 2},
+    {"the same masks for every bay", draw_small, with_the_same_masks, 1},
+    {"one bay alone", draw_small, one_alone, 1},
+    {"numbers of no bay", draw_small, with_no_bays, 1},
+    {"numbers of no command", draw_small, with_no_commands, 1},
+    {"ends that do not fit", draw_bad_ends, in_random_order, 1},
+    {"registers in shape and out of it", draw_small, with_registers_set, 2},
+    {"registers of nets with merges", draw_merging, with_registers_set, 1},
+    {"registers of large nets", draw_large, with_registers_set, 1},
+    {"counts and cycles used", draw_small, with_counts_set, 2},
+    {"near the allowance", draw_small, near_the_allowance, 2},
+    {"several faults at once", draw_any_ends, with_several_faults, 2},
+    {"refused forms", draw_refused, with_all_set, 1},
+    {"channel counts changed and set back", draw_small, with_channels_set, 1},
+    {"fresh records in the middle", draw_small, with_fresh_records, 1},
+    {"nets of 64 blocks or almost", draw_large, in_random_order, 1},
+    {"files that are no case, or hardly one", draw_small, spoil_file, 1},
+};
+
+// What the nets were like.
+static unsigned long of_kind[KINDS], of_64_blocks;
+
+static void note_net(const struct draft *d)
+{
+    for (unsigned b = 0; b < d->blocks; b++) of_kind[d->block[b].kind]++;
+    of_64_blocks += d->blocks == 64;
+}
+
+static void try_class(unsigned class, unsigned nets)
+{
+    static struct scene s;
+    for (unsigned i = 0; i < nets * classes[class].times; i++) {
+        struct random r = random_for(1 + class, i);
+        s.class = classes[class].name;
+        s.seed = r.first;
+        classes[class].net(&s, &r, i);
+        note_net(&s.draft);
+        begin_case(&s);
+        classes[class].commands(&s, &r, i);
+        compare_case(&s);
+    }
+}
+
+static void print_notes(void)
+{
+    for (unsigned k = 0; k < BAYS; k++) printf("bay %u: %lu steps, %lu words delivered\n", k, steps[k], deliveries[k]);
+    printf("fresh records refused: %lu, files that are no case: %lu, nets of 64 blocks: %lu\nblocks of kind", fresh_refused, no_cases, of_64_blocks);
+    for (unsigned kind = 0; kind < KINDS; kind++) printf(" %u: %lu%s", kind, of_kind[kind], kind + 1 < KINDS ? "," : "\n");
+}
+
+static void require_refusals(void)
+{
+    static const unsigned wanted[] = {1, 2, 3, 4, 5, 6, 7, 8, 9, 10, 11, BAD_NET, BAD_RECORD, BAD_ENDS, ALLOWANCE_USED, NO_BAY};
+    char what[40];
+    for (unsigned i = 0; i < sizeof wanted / sizeof wanted[0]; i++) {
+        snprintf(what, sizeof what, "refusal %u", wanted[i]);
+        require(times_refused(wanted[i]) > 0, what);
+    }
+}
+
+// What the cases have to show, from 12 nets for each class on.
+static void require_notes(void)
+{
+    require_refusals();
+    for (unsigned k = 0; k < BAYS; k++) require(deliveries[k] > 0, "a delivery in each bay");
+    for (unsigned kind = 0; kind < KINDS; kind++) require(of_kind[kind] > 0, "a kind of block");
+    require(fresh_refused > 0, "a fresh record that is refused");
+    require(no_cases > 0, "a file that is no case");
+    require(of_64_blocks > 0, "a net of 64 blocks");
+}
+
+int main(int count, char **arguments)
+{
+    if (count < 3) {
+        fprintf(stderr, "usage: baying BAYTRY CASE [SEED [NETS [random]]]\n");
+        return 2;
+    }
+    baytry = arguments[1];
+    case_file = arguments[2];
+    if (count > 3) first_seed = strtoull(arguments[3], NULL, 10);
+    unsigned nets = count > 4 ? (unsigned)strtoul(arguments[4], NULL, 10) : NETS;
+    if (count <= 5) try_by_hand();
+    for (unsigned class = 0; class < sizeof classes / sizeof classes[0]; class++) try_class(class, nets);
+    if (nets >= FEWEST_NETS) require_notes();
+    print_notes();
+    print_classes();
+    print_verdict();
+    remove(case_file);
+    return 0;
+}

@@ -1,0 +1,25 @@
+// Four bays on one net in plain C, to compare the program baytry with. Made from document 01 and the request's words alone.
+#ifndef BAYS_H
+#define BAYS_H
+
+#include <stddef.h>
+#include <stdint.h>
+#include <stdio.h>
+
+enum { BAYS = 4, ALLOWANCE = 1048576 };
+
+// The refusals of the calls on a record: the net value, the record, the ends, the allowance, the number of the bay.
+enum { BAD_NET = 12, BAD_RECORD = 13, BAD_ENDS = 14, ALLOWANCE_USED = 16, NO_BAY = 21 };
+
+// A case is a file of numbers, 4 bytes each, most significant first, with a form among them: how many bytes the form has, how many words and ends there are,
+// the form, the words, the ends; then commands of three numbers each.
+enum { CASE_ROOM = 4096, HEADER_BYTES = 12, COMMAND_BYTES = 12, MOST_WORDS = 256, MOST_ENDS = 64 };
+
+// A command up to 255 steps the bay of that number with an offer and a ready mask. The others: a fresh record, the cycles used, the net's channel count; and
+// for each bay, its number added, the count, the word register of a block, its marks. Other numbers do nothing.
+enum { LAST_STEP = 255, FRESH_RECORD = 256, SET_USED = 257, SET_CHANNELS = 258, SET_COUNT = 260, SET_WORD = 264, SET_MARKS = 268, NO_COMMAND = 272 };
+
+// What baytry prints for a case.
+void print_case(FILE *out, const uint8_t *bytes, size_t len);
+
+#endif

@@ -1,0 +1,300 @@
+#include "bayscenes.h"
+#include "spoil.h"
+#include <string.h>
+
+enum { SMALL_BLOCKS = 18, LONGEST_STREAM = 24 };
+
+// ---- Writing a case
+
+static void put_number(struct scene *s, uint32_t number)
+{
+    for (int shift = 24; shift >= 0; shift -= 8) s->bytes[s->len++] = (uint8_t)(number >> shift);
+}
+
+void put_numbers(struct scene *s, const uint32_t *numbers, size_t count)
+{
+    for (size_t i = 0; i < count; i++) put_number(s, numbers[i]);
+}
+
+unsigned commands_left(const struct scene *s)
+{
+    return (unsigned)((CASE_ROOM - s->len) / COMMAND_BYTES);
+}
+
+// Adds a command, if there is room.
+void add(struct scene *s, uint32_t command, uint32_t a, uint32_t b)
+{
+    if (commands_left(s) > 0) put_numbers(s, (uint32_t[]){command, a, b}, 3);
+}
+
+// A case without commands: header, form, words, ends.
+void begin_case(struct scene *s)
+{
+    s->len = 0;
+    put_numbers(s, (uint32_t[]){(uint32_t)s->form.len, (uint32_t)s->word_count, (uint32_t)s->end_count}, 3);
+    memcpy(s->bytes + s->len, s->form.bytes, s->form.len);
+    s->len += s->form.len;
+    put_numbers(s, s->words, s->word_count);
+    put_numbers(s, s->ends, s->end_count);
+}
+
+// A step of a bay with its next masks; a number of no bay takes those of some bay.
+void step(struct scene *s, unsigned bay)
+{
+    const uint32_t *masks = s->masks[bay % BAYS] + 2 * (s->given[bay % BAYS]++ % MASK_CYCLES);
+    add(s, bay, masks[0], masks[1]);
+}
+
+void step_some(struct scene *s, struct random *r, unsigned count)
+{
+    for (unsigned i = 0; i < count; i++) step(s, below(r, BAYS));
+}
+
+void step_each(struct scene *s)
+{
+    for (unsigned k = 0; k < BAYS; k++) step(s, k);
+}
+
+// ---- Nets and streams
+
+// Streams of so many words that all have room, and masks for each bay, drawn in a way of its own. At times there are words behind the last stream.
+static void draw_signals(struct scene *s, struct random *r)
+{
+    unsigned sources = count_kind(&s->draft, SOURCE), longest = sources > 0 ? MOST_WORDS / sources : 1;
+    memset(s->words, 0, sizeof s->words);
+    s->word_count = draw_streams(r, &s->draft, longest < LONGEST_STREAM ? longest : LONGEST_STREAM, s->words, s->ends);
+    s->end_count = sources;
+    for (; s->word_count < MOST_WORDS && chance(r, 8); s->word_count++) s->words[s->word_count] = random_bits(r);
+    for (unsigned k = 0; k < BAYS; k++) {
+        draw_masks(r, below(r, MASK_WAYS), MASK_CYCLES, s->masks[k]);
+        s->given[k] = 0;
+    }
+}
+
+static void draw_net(struct scene *s, struct random *r, const struct wish *wish)
+{
+    draw(r, wish, &s->draft);
+    write_form(&s->draft, &s->form);
+    draw_signals(s, r);
+}
+
+void draw_small(struct scene *s, struct random *r, unsigned i)
+{
+    (void)i;
+    draw_net(s, r, &(struct wish){{2 + below(r, SMALL_BLOCKS), 64, 12, 12}, chance(r, 2) ? 0 : below(r, 5), 1, ~0u});
+}
+
+// A small net with a merge in it.
+void draw_merging(struct scene *s, struct random *r, unsigned i)
+{
+    do draw_small(s, r, i);
+    while (count_kind(&s->draft, MERGE) == 0);
+}
+
+void draw_large(struct scene *s, struct random *r, unsigned i)
+{
+    draw_net(s, r, &(struct wish){{61 + below(r, 4), 128, 32, 32}, chance(r, 2) ? 0 : below(r, 9), 1, i % 4 == 1 ? patterns_of_channels() : ~0u});
+}
+
+// ---- Ends that do not fit
+
+// Too few, too many, none; two that descend; one that passes the words; words too few; as many words as there may be, which do fit.
+enum { FEWER_ENDS, MORE_ENDS, NO_ENDS, MANY_ENDS, DESCENDING, PAST_THE_WORDS, FAR_PAST, FEWER_WORDS, NO_WORDS, MORE_WORDS, END_FAULTS };
+
+static void spoil_ends(struct scene *s, struct random *r, unsigned fault)
+{
+    size_t last = s->end_count - 1, some = below(r, (uint32_t)s->end_count);
+    switch (fault) {
+    case FEWER_ENDS: s->end_count--; break;
+    case MORE_ENDS: s->ends[s->end_count++] = (uint32_t)s->word_count; break;
+    case NO_ENDS: s->end_count = 0; break;
+    case MANY_ENDS:
+        for (; s->end_count < MOST_ENDS; s->end_count++) s->ends[s->end_count] = s->ends[last];
+        break;
+    case DESCENDING: s->ends[some] = s->ends[last] + 1; s->word_count += s->word_count < MOST_WORDS; break;
+    case PAST_THE_WORDS: s->ends[last] = (uint32_t)s->word_count + 1; break;
+    case FAR_PAST: s->ends[some] = chance(r, 2) ? 0xffffffff : 1u << below(r, 32) | s->ends[some]; break;
+    case FEWER_WORDS: s->word_count -= s->word_count > 0; break;
+    case NO_WORDS: s->word_count = 0; break;
+    default: s->word_count = MOST_WORDS; break;
+    }
+}
+
+void draw_bad_ends(struct scene *s, struct random *r, unsigned i)
+{
+    draw_small(s, r, i);
+    spoil_ends(s, r, i % END_FAULTS);
+}
+
+// Half of the cases have ends that do not fit.
+void draw_any_ends(struct scene *s, struct random *r, unsigned i)
+{
+    draw_small(s, r, i);
+    if (i % 2) spoil_ends(s, r, below(r, END_FAULTS));
+}
+
+// ---- Refused forms
+
+// A net that earns 9: over 32 sources or sinks.
+static void draw_many(struct scene *s, struct random *r)
+{
+    const struct wish wish = {{64, 128, 64, 64}, 0, 1, chance(r, 2) ? patterns_of_sources() : patterns_of_sinks()};
+    do draw(r, &wish, &s->draft);
+    while (count_kind(&s->draft, SOURCE) <= 32 && count_kind(&s->draft, SINK) <= 32);
+}
+
+// A net whose loops lack buffers, which earns 10 or 11.
+static void draw_unbuffered(struct scene *s, struct random *r, uint32_t refusal)
+{
+    const struct wish wish = {{6 + below(r, SMALL_BLOCKS), 64, 12, 12}, 2 + below(r, 8), 0, ~0u};
+    do draw(r, &wish, &s->draft);
+    while (refusal_of_loops(&s->draft) != refusal);
+}
+
+// For each refusal of a form in turn a form that earns it.
+void draw_refused(struct scene *s, struct random *r, unsigned i)
+{
+    unsigned refusal = 1 + i % 11;
+    if (refusal == 9) draw_many(s, r);
+    else if (refusal >= 10) draw_unbuffered(s, r, refusal);
+    else do draw_small(s, r, i); while (s->draft.channels < 2);
+    write_form(&s->draft, &s->form);
+    draw_signals(s, r);
+    if (refusal <= 8) spoil_form(r, &s->draft, &s->form, (int)refusal);
+}
+
+// ---- Records that are spoilt
+
+struct registers { uint32_t word, marks; };
+
+// Words and marks at the edge of what a block may hold: the block's m and the full marks of a fork are such edges.
+static struct registers edge_registers(struct random *r, const struct drawn *block)
+{
+    uint32_t m = block->m, full = (1u << m) - 1, marks = ONE_OF(r, 0, 1, 2, 3, 4, 128, 255);
+    switch (block->kind) {
+    case SOURCE: return (struct registers){ONE_OF(r, 0, 1, 2, 255, 256, 257, 65536, 0x80000000, 0xffffffff), chance(r, 2) ? below(r, 2) : marks};
+    case FORK: return (struct registers){below(r, 4) == 0, ONE_OF(r, 0, 1, full - 1, full - 1, full, full, (full + 1) % 256, 255)};
+    case MERGE:
+        if (chance(r, 2)) return (struct registers){ONE_OF(r, 1, m), ONE_OF(r, 0, 1, 2, 3, 3, 4, 255)};
+        return (struct registers){ONE_OF(r, 0, 0, 0, 0, m + 1, m + 1, 256, 0x80000000, 0xffffffff), ONE_OF(r, 0, 1, 2)};
+    case DATA:
+    case FULL_DATA:
+    case CONTROL: return (struct registers){ONE_OF(r, 0, 1, 256, 65536, 0x80000000, 0xffffffff), chance(r, 2) ? below(r, 2) : marks};
+    default: return chance(r, 2) ? (struct registers){0, marks} : (struct registers){ONE_OF(r, 0, 1, 256, 65536, 0x80000000, 0xffffffff), 0};
+    }
+}
+
+// The numbers as the command takes them: the remainder for 64 blocks and for 256 marks counts.
+void set_registers(struct scene *s, struct random *r, unsigned bay, unsigned block, uint32_t word, uint32_t marks)
+{
+    add(s, SET_WORD + bay, block + 64 * (chance(r, 4) ? below(r, 1000) : 0), word);
+    add(s, SET_MARKS + bay, block + 64 * (chance(r, 4) ? below(r, 1000) : 0), marks + 256 * (chance(r, 4) ? below(r, 1000) : 0));
+}
+
+// A block of the net; more often than by their number one of those whose rules name registers. Or an entry behind the blocks.
+static unsigned some_entry(struct random *r, const struct draft *d)
+{
+    if (chance(r, 6)) return chance(r, 2) ? d->blocks % 64 : below(r, 64);
+    unsigned kind = ONE_OF(r, SOURCE, FORK, MERGE, DATA, FULL_DATA, CONTROL), b = below(r, d->blocks), tries = chance(r, 3) ? 0 : d->blocks;
+    for (; tries > 0 && d->block[b].kind != kind; tries--) b = (b + 1) % d->blocks;
+    return b;
+}
+
+// Spoils a block of the net, or an entry behind its blocks, or leaves them at the edge of being spoilt; answers which.
+unsigned spoil_registers(struct scene *s, struct random *r, unsigned bay)
+{
+    static const struct drawn none = {.kind = SINK};
+    unsigned b = some_entry(r, &s->draft);
+    struct registers edge = edge_registers(r, b < s->draft.blocks ? &s->draft.block[b] : &none);
+    set_registers(s, r, bay, b, edge.word, edge.marks);
+    return b;
+}
+
+// Four counts, and the cycles used, which need not be their sum.
+void set_counts(struct scene *s, const uint32_t *counts, uint32_t used)
+{
+    for (unsigned k = 0; k < BAYS; k++) add(s, SET_COUNT + k, counts[k], 0);
+    add(s, SET_USED, used, 0);
+}
+
+// Splits a sum into four counts: all in one bay, about evenly, or anyhow.
+void split(struct random *r, uint32_t sum, uint32_t *counts)
+{
+    unsigned way = below(r, 3), order[BAYS];
+    uint32_t rest = sum;
+    shuffle(r, BAYS, order);
+    for (unsigned n = 0; n < BAYS; n++) {
+        uint32_t part = way == 0 ? rest : way == 1 ? sum / BAYS : below(r, rest + 1);
+        counts[order[n]] = n == BAYS - 1 || part > rest ? rest : part;
+        rest -= counts[order[n]];
+    }
+}
+
+// Counts whose sum goes round at 2^32 to a small number: what one count has more, another has less. Answers the small number.
+static uint32_t split_round(struct random *r, uint32_t *counts)
+{
+    uint32_t sum = below(r, 20), first = below(r, BAYS), second = (first + 1 + below(r, BAYS - 1)) % BAYS;
+    split(r, sum, counts);
+    uint32_t moved = ONE_OF(r, 0x80000000, 0x40000000, 0xffffffff, 0xfff00000, 1 + ALLOWANCE, 0x3fffffff) + (chance(r, 2) ? below(r, 100) : 0);
+    counts[first] += moved;
+    counts[second] -= moved;
+    return sum;
+}
+
+// Counts that are each in range, but at the limit or well below it, so that their sum is above the allowance. Answers the sum.
+static uint32_t split_above(struct random *r, uint32_t *counts)
+{
+    uint32_t sum = 0;
+    for (unsigned k = 0; k < BAYS; k++) sum += counts[k] = ALLOWANCE - below(r, chance(r, 2) ? 2 : ALLOWANCE / 2);
+    return sum;
+}
+
+// The allowance is used up, and one bay has made a step more.
+static uint32_t split_one_above(struct random *r, unsigned bay, uint32_t *counts)
+{
+    do split(r, ALLOWANCE, counts);
+    while (counts[bay] == ALLOWANCE);
+    counts[bay]++;
+    return ALLOWANCE + 1;
+}
+
+void spoil_counts(struct scene *s, struct random *r, unsigned fault)
+{
+    uint32_t counts[BAYS], used = chance(r, 2) ? below(r, 50) : below(r, ALLOWANCE), bay = below(r, BAYS);
+    split(r, used, counts);
+    switch (fault) {
+    case USED_MORE: used++; break;
+    case USED_LESS: used--; break;
+    case USED_OFF: used ^= 1u << below(r, 32); break;
+    case USED_ANY: used = ONE_OF(r, 0, 1, ALLOWANCE, ALLOWANCE + 1, 0xffffffff); break;
+    case COUNT_MORE: counts[bay]++; break;
+    case COUNT_LESS: counts[bay]--; break;
+    case COUNT_OFF: counts[bay] ^= 1u << below(r, 32); break;
+    case ONE_ABOVE: used = split_one_above(r, bay, counts); break;
+    case FAR_ABOVE: used = split_above(r, counts); break;
+    case ONE_BAY_ABOVE: memset(counts, 0, sizeof counts); used = counts[bay] = ALLOWANCE + 1; break;
+    case ROUND: used = split_round(r, counts); break;
+    default: break;
+    }
+    set_counts(s, counts, used);
+}
+
+// A fault of the record: registers behind the blocks, registers of a sink, the cycles used, a count. Before it, the cycles used are at most 1 or the allowance.
+void spoil_record(struct scene *s, struct random *r)
+{
+    unsigned bay = below(r, BAYS), b = 0;
+    while (b < s->draft.blocks && s->draft.block[b].kind != SINK) b++;
+    switch (below(r, 4)) {
+    case 0: set_registers(s, r, bay, 63, 1 + below(r, 9), 0); break;
+    case 1: set_registers(s, r, bay, b % 64, 0, 1 + below(r, 255)); break;
+    case 2: add(s, SET_USED, ONE_OF(r, 2, ALLOWANCE - 1, ALLOWANCE + 1, 0xffffffff), 0); break;
+    default: add(s, SET_COUNT + bay, ONE_OF(r, 7, ALLOWANCE + 1, 0xffffffff), 0); break;
+    }
+}
+
+// A channel count that is not the net's own.
+uint32_t other_channels(struct random *r, const struct draft *d)
+{
+    uint32_t any = below(r, 256), other = ONE_OF(r, 0, 1, d->channels - 1, d->channels + 1, 127, 128, 129, 255, any);
+    return other == d->channels ? 0 : other;
+}

@@ -1,0 +1,58 @@
+// Cases for the program baytry: a net with its streams and the masks of four bays, then commands; and ways to spoil them.
+#ifndef BAYSCENES_H
+#define BAYSCENES_H
+
+#include "bays.h"
+#include "generate.h"
+
+// So many cycles have masks for each bay, more than a case has room for.
+enum { MASK_CYCLES = 360 };
+
+// A case as it grows, the net and the streams that it is made from, and for each bay its masks and how many steps it was given.
+struct scene {
+    const char *class;
+    uint64_t seed;
+    struct draft draft;
+    struct form form;
+    uint32_t words[MOST_WORDS], ends[MOST_ENDS], masks[BAYS][2 * MASK_CYCLES];
+    size_t word_count, end_count, given[BAYS], len;
+    uint8_t bytes[CASE_ROOM];
+};
+
+// A case without commands; numbers at its end; how many commands have room; a command, if it has room.
+void begin_case(struct scene *s);
+void put_numbers(struct scene *s, const uint32_t *numbers, size_t count);
+unsigned commands_left(const struct scene *s);
+void add(struct scene *s, uint32_t command, uint32_t a, uint32_t b);
+
+// A step of a bay with its next masks, where a number of no bay takes those of some bay; some steps of any bays; one of each.
+void step(struct scene *s, unsigned bay);
+void step_some(struct scene *s, struct random *r, unsigned count);
+void step_each(struct scene *s);
+
+// A net with streams and masks: small; small with a merge; of 64 blocks or almost; small with streams that are spoilt, each time or every second time; with a
+// form that is refused, for each refusal in turn.
+typedef void scene_rule(struct scene *, struct random *, unsigned);
+scene_rule draw_small, draw_merging, draw_large, draw_bad_ends, draw_any_ends, draw_refused;
+
+// A number from a short list.
+#define ONE_OF(r, ...) ((const uint32_t[]){__VA_ARGS__})[below(r, sizeof((uint32_t[]){__VA_ARGS__}) / sizeof(uint32_t))]
+
+// The registers of a block, or of an entry behind the blocks; such registers in shape or out of it, the answer says of which.
+void set_registers(struct scene *s, struct random *r, unsigned bay, unsigned block, uint32_t word, uint32_t marks);
+unsigned spoil_registers(struct scene *s, struct random *r, unsigned bay);
+
+// A sum as four counts; four counts, and the cycles used, which need not be their sum.
+void split(struct random *r, uint32_t sum, uint32_t *counts);
+void set_counts(struct scene *s, const uint32_t *counts, uint32_t used);
+
+// What becomes of the counts: another split; used off by one, by a power of two, wholly; a count off by one or by a power of two; a sum above the allowance, by
+// one or by far, or by one bay alone; a sum that goes round.
+enum { SPLIT, USED_MORE, USED_LESS, USED_OFF, USED_ANY, COUNT_MORE, COUNT_LESS, COUNT_OFF, ONE_ABOVE, FAR_ABOVE, ONE_BAY_ABOVE, ROUND, COUNT_FAULTS };
+void spoil_counts(struct scene *s, struct random *r, unsigned fault);
+
+// A fault of a record in which one step was made, or the allowance used up; a channel count that is not the net's own.
+void spoil_record(struct scene *s, struct random *r);
+uint32_t other_channels(struct random *r, const struct draft *d);
+
+#endif

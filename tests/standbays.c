@@ -1,0 +1,314 @@
+// The program baytry made from the model, to try the tests without it; with -D one thing is broken on purpose. It takes the name of a case.
+#include "bays.c"
+#include <errno.h>
+
+// ---- The shape of a record
+
+// Makes good what the shape test is not to see in a block's registers.
+static void forgive(const struct block *b, struct reg *r)
+{
+    (void)b, (void)r;
+#ifdef FORK_ALL_GONE_PASSED
+    if (b->kind == FORK && r->marks == (1u << b->m) - 1) r->marks = 0;
+#endif
+#ifdef FORK_WORD_PASSED
+    if (b->kind == FORK) r->word = 0;
+#endif
+#ifdef WINNER_PAST_THE_LAST_PASSED
+    if (b->kind == MERGE && r->word == b->m + 1) r->word = 1;
+#endif
+#ifdef BOTH_SIDES_GONE_PASSED
+    if (b->kind == MERGE && r->marks == 3) r->marks = 0;
+#endif
+#ifdef MARKS_WITHOUT_WINNER_PASSED
+    if (b->kind == MERGE && r->word == 0 && r->marks < 3) r->marks = 0;
+#endif
+#ifdef WORD_IN_EMPTY_BUFFER_PASSED
+    if (b->kind >= DATA && r->marks == 0) r->word = 0;
+#endif
+#ifdef FULL_MARK_OF_2_PASSED
+    if (b->kind >= DATA && r->marks == 2) r->marks = 1;
+#endif
+#ifdef HELD_MARK_OF_2_PASSED
+    if (b->kind == SOURCE && r->marks == 2) r->marks = 1;
+#endif
+#ifdef UNNAMED_REGISTERS_PASSED
+    if (b->kind != SOURCE && (b->kind < FORK || b->kind == MUX || b->kind == DEMUX)) *r = (struct reg){0, 0};
+#endif
+}
+
+static int broken_state_is_bad(const struct net *net, struct state state)
+{
+    for (uint32_t b = 0; b < net->blocks; b++) forgive(&net->block[b], &state.reg[b]);
+#ifdef ENTRIES_BEYOND_PASSED
+    memset(&state.reg[net->blocks], 0, (REGISTERS - net->blocks) * sizeof state.reg[0]);
+#endif
+#ifdef POSITION_PAST_THE_WORDS_REFUSED
+    // No stream has so many words, but a position is any number.
+    for (uint32_t b = 0; b < net->blocks; b++)
+        if (net->block[b].kind == SOURCE && state.reg[b].word > MOST_WORDS) return 1;
+#endif
+#ifdef SUM_IN_32_BITS
+    // A count is thought to be in range when the sum is, which goes round.
+    state.count = 0;
+#endif
+    return !state_in_shape(net, &state);
+}
+
+// Whether a state is looked at when a bay makes a step.
+static int is_looked_at(unsigned k, uint32_t bay)
+{
+    (void)k, (void)bay;
+#ifdef OWN_SHAPE_ONLY
+    return k == bay;
+#elif defined FIRST_BAY_SHAPE_ONLY
+    return k == 0;
+#elif defined LAST_BAY_SHAPE_PASSED
+    return k < BAYS - 1;
+#else
+    return 1;
+#endif
+}
+
+static int broken_sum_is_bad(const struct record *record)
+{
+    uint64_t sum = sum_of_counts(record);
+#ifdef SUM_NOT_TESTED
+    sum = record->used;
+#elif defined SUM_IN_32_BITS
+    sum = (uint32_t)sum;
+#elif defined SUM_IN_16_BITS
+    if (sum % 65536 == record->used % 65536) sum = record->used;
+#elif defined LESS_THAN_SUM_PASSED
+    if (record->used < sum) sum = record->used;
+#elif defined SUM_OF_THREE
+    sum -= record->state[BAYS - 1].count;
+#endif
+    return sum != record->used;
+}
+
+static int broken_record_is_bad(const struct net *net, const struct record *record, uint32_t bay)
+{
+    for (unsigned k = 0; k < BAYS; k++)
+        if (is_looked_at(k, bay) && broken_state_is_bad(net, record->state[k])) return 1;
+    if (broken_sum_is_bad(record)) return 1;
+#ifdef ABOVE_ALLOWANCE_PASSED
+    return 0;
+#else
+    return record->used > ALLOWANCE;
+#endif
+}
+
+// ---- Refusals in some order
+
+static int no_such_bay(uint32_t bay)
+{
+#ifdef LAST_BAY_MISSING
+    return bay >= BAYS - 1;
+#elif defined BAY_MODULO_4
+    (void)bay;
+    return 0;
+#elif defined FIVE_BAYS
+    return bay > BAYS;
+#else
+    return bay >= BAYS;
+#endif
+}
+
+static int allowance_is_used(const struct record *record, uint32_t bay)
+{
+    (void)bay;
+#ifdef ALLOWANCE_BY_OWN_COUNT
+    return record->state[bay % BAYS].count >= ALLOWANCE;
+#elif defined ALLOWANCE_ONE_LESS
+    return record->used >= ALLOWANCE - 1;
+#elif defined ALLOWANCE_ONE_MORE
+    return record->used > ALLOWANCE;
+#else
+    return record->used >= ALLOWANCE;
+#endif
+}
+
+static const uint32_t order[] = {
+#ifdef BAY_AFTER_NET
+    BAD_NET, NO_BAY, BAD_RECORD, BAD_ENDS, ALLOWANCE_USED
+#elif defined BAY_LAST
+    BAD_NET, BAD_RECORD, BAD_ENDS, ALLOWANCE_USED, NO_BAY
+#elif defined RECORD_BEFORE_NET
+    NO_BAY, BAD_RECORD, BAD_NET, BAD_ENDS, ALLOWANCE_USED
+#elif defined ENDS_BEFORE_RECORD
+    NO_BAY, BAD_NET, BAD_ENDS, BAD_RECORD, ALLOWANCE_USED
+#elif defined ALLOWANCE_BEFORE_ENDS
+    NO_BAY, BAD_NET, BAD_RECORD, ALLOWANCE_USED, BAD_ENDS
+#elif defined ALLOWANCE_BEFORE_RECORD
+    NO_BAY, BAD_NET, ALLOWANCE_USED, BAD_RECORD, BAD_ENDS
+#else
+    NO_BAY, BAD_NET, BAD_RECORD, BAD_ENDS, ALLOWANCE_USED
+#endif
+};
+
+static int earns(struct depot *d, uint32_t bay, uint32_t refusal)
+{
+    switch (refusal) {
+    case NO_BAY: return no_such_bay(bay);
+    case BAD_NET: return net_is_bad(d);
+    case BAD_RECORD: return broken_record_is_bad(&d->circuit.net, &d->record, bay);
+    case BAD_ENDS: return ends_are_bad(d);
+    default: return allowance_is_used(&d->record, bay);
+    }
+}
+
+static uint32_t broken_refusal(struct depot *d, uint32_t bay)
+{
+    for (unsigned i = 0; i < sizeof order / sizeof order[0]; i++)
+        if (earns(d, bay, order[i])) return order[i];
+    return 0;
+}
+
+// ---- Steps
+
+// What is broken about a step that was refused.
+static void after_refusal(struct depot *d, uint32_t bay, uint32_t refusal, uint32_t offer, uint32_t ready, struct given *given)
+{
+    (void)d, (void)bay, (void)refusal, (void)offer, (void)ready, (void)given;
+#ifdef REFUSED_STEP_COUNTS
+    // A step that is refused for its ends is counted.
+    if (refusal == BAD_ENDS) d->record.state[bay].count++, d->record.used++;
+#endif
+#ifdef REFUSED_STEP_MOVES
+    // A step that is refused for the allowance moves words, and is not counted.
+    if (refusal == ALLOWANCE_USED) {
+        struct given unseen;
+        step_state(&d->circuit, &d->record.state[bay], offer, ready, &unseen);
+        d->record.state[bay].count--;
+    }
+#endif
+#ifdef REFUSED_DELIVERS
+    // A step that is refused for the allowance says what it would have delivered.
+    if (refusal == ALLOWANCE_USED) {
+        struct state state = d->record.state[bay];
+        step_state(&d->circuit, &state, offer, ready, given);
+    }
+#endif
+#ifdef REFUSED_RECORD_IS_ZERO
+    memset(&d->record, 0, sizeof d->record);
+#endif
+}
+
+// What is broken about a step that was made.
+static void after_step(struct depot *d, uint32_t bay, uint32_t offer, uint32_t ready, struct given *given)
+{
+    struct state *state = d->record.state;
+    (void)bay, (void)offer, (void)ready, (void)given, (void)state;
+#ifdef OTHER_BAY_MOVES
+    struct given unseen;
+    step_state(&d->circuit, &state[(bay + 1) % BAYS], offer, ready, &unseen);
+    state[(bay + 1) % BAYS].count--;
+#endif
+#ifdef ONE_STATE_FOR_ALL
+    for (unsigned k = 0; k < BAYS; k++) memcpy(state[k].reg, state[bay].reg, sizeof state[k].reg);
+#endif
+#ifdef STREAMS_SHARED
+    // A word that one bay's source has given is gone for all bays.
+    for (uint32_t i = 0; i < BAYS * d->circuit.net.blocks; i++)
+        if (d->circuit.net.block[i / BAYS].kind == SOURCE) state[i % BAYS].reg[i / BAYS].word = state[bay].reg[i / BAYS].word;
+#endif
+#ifdef USED_NOT_RAISED
+    d->record.used--;
+#endif
+#ifdef COUNT_NOT_RAISED
+    state[bay].count--;
+#endif
+#ifdef COUNTED_IN_BAY_0
+    state[bay].count--;
+    state[0].count++;
+#endif
+#ifdef DELIVERIES_STAY
+    // What the step before delivered stays where nothing is delivered now.
+    static struct given last;
+    for (uint32_t c = 0; c < CHANNELS; c++)
+        if (!given->mark[c]) given->mark[c] = last.mark[c], given->word[c] = last.word[c];
+    last = *given;
+#endif
+}
+
+// The masks that a step takes.
+static void take_masks(uint32_t *offer, uint32_t *ready)
+{
+    (void)offer, (void)ready;
+#ifdef OFFER_OF_THE_STEP_BEFORE
+    static uint32_t last = 0xffffffff;
+    uint32_t now = *offer;
+    *offer = last;
+    last = now;
+#endif
+#ifdef MASKS_CHANGED_ROUND
+    uint32_t kept = *offer;
+    *offer = *ready;
+    *ready = kept;
+#endif
+}
+
+// A state that should not have passed is brought to where a cycle can be worked out.
+static void keep_winners(const struct net *net, struct state *state)
+{
+    for (uint32_t b = 0; b < net->blocks; b++)
+        if (net->block[b].kind == MERGE) state->reg[b].word %= net->block[b].m + 1;
+}
+
+static uint32_t broken_step(struct depot *d, uint32_t bay, uint32_t offer, uint32_t ready, struct given *given)
+{
+    uint32_t refusal = broken_refusal(d, bay), own = bay % BAYS;
+    if (refusal) {
+        after_refusal(d, own, refusal, offer, ready, given);
+        return refusal;
+    }
+    take_masks(&offer, &ready);
+    for (unsigned k = 0; k < BAYS; k++) keep_winners(&d->circuit.net, &d->record.state[k]);
+    step_state(&d->circuit, &d->record.state[own], offer, ready, given);
+    d->record.used++;
+    after_step(d, own, offer, ready, given);
+    return 0;
+}
+
+// ---- Fresh records
+
+static uint32_t broken_fresh(struct depot *d)
+{
+    const struct record before = d->record;
+    uint32_t refusal = fresh_bays(d);
+    (void)before;
+#ifdef FRESH_KEEPS_USED
+    d->record.used = before.used;
+#endif
+#ifdef FRESH_MISSES_THE_LAST_BAY
+    d->record.used = d->record.state[BAYS - 1].count = before.state[BAYS - 1].count;
+    memcpy(d->record.state[BAYS - 1].reg, before.state[BAYS - 1].reg, sizeof before.state[BAYS - 1].reg);
+#endif
+#ifdef FULL_BUFFERS_IN_BAY_0_ONLY
+    memset(&d->record.state[1], 0, (BAYS - 1) * sizeof d->record.state[1]);
+#endif
+#ifdef REFUSED_FRESH_KEEPS_RECORD
+    if (refusal) d->record = before;
+#endif
+    return refusal;
+}
+
+// ---- The program
+
+static void print_file(FILE *file)
+{
+    static uint8_t bytes[CASE_ROOM];
+    print_case(stdout, bytes, fread(bytes, 1, sizeof bytes, file));
+    fclose(file);
+}
+
+int main(int count, char **arguments)
+{
+    FILE *file = count > 1 ? fopen(arguments[1], "rb") : NULL;
+    calls.fresh = broken_fresh;
+    calls.step = broken_step;
+    if (file) print_file(file);
+    else fprintf(stderr, "cannot read a case: %s\n", strerror(errno));
+    return 0;
+}
