@@ -309,6 +309,6 @@ int main(int count, char **arguments)
     calls.fresh = broken_fresh;
     calls.step = broken_step;
     if (file) print_file(file);
-    else fprintf(stderr, "cannot read a case: %s\n", strerror(errno));
+    else fprintf(stderr, "cannot read %s: %s\n", count > 1 ? arguments[1] : "a case", strerror(errno));
     return 0;
 }

@@ -23,6 +23,7 @@ use Rattle.cycles.specs.State.{tab, shapeOk}
 use Rattle.cycles.specs.Step.{refusalBy, stepBy}
 use Rattle.queue.specs.Machine.{putBy}
 use Rattle.queue.specs.Delivered.{delivered, choices}
+use Rattle.queue.specs.Claims.{Comparable}
 use Rattle.queue.proofs.Trial.{line-run}
 use Rattle.handshake.proofs.Tables.{merging}
 use Rattle.handshake.proofs.Chosen.{merging-run}
@@ -31,7 +32,7 @@ use Rattle.claims.proofs.Trials.{as-accepted, as-chosen, line-in, merging-in}
 use Rattle.bays.specs.Calls.{stateAt}
 use Rattle.bays.specs.Promised.{Call, step, callsOf, answer, recordAfter, bayDelivered, bayChoices, ownOf}
 use Rattle.bays.proofs.Records.{counts-four}
-use Rattle.bays.proofs.Theorems.{bays-apart, own-choices, used-is-sum, count-is-steps, refused-by-use, none-refused, guaranteed-bays}
+use Rattle.bays.proofs.Theorems.{bays-apart, own-choices, used-is-sum, count-is-steps, refused-by-use, none-refused, guaranteed-bays, same-choices-bays}
 
 -- what a bay delivers, and chooses, in fewer calls than the allowance has cycles: what the steps asked of it do
 module _ (net : Net) (words ends : List ℕ) (acc : accepted net ≡ true) (fit : endsFit net words ends ≡ true) (calls : List Call) (few : length calls < 1048577) (b : ℕ) (h : b < 4) where
@@ -85,6 +86,11 @@ pub turns-deliver : (turnsDeliver 0 2 ≡ 6 ∷ 7 ∷ 8 ∷ []) × (turnsDeliver
 turns-deliver =
     let say = delivers line (1 ∷ 2 ∷ 3 ∷ []) (3 ∷ []) (line-in .0) line-fits turns (omega arith) in
     (say 0 (omega arith) 2 ∙ line-run .2, say 1 (omega arith) 2 ∙ stalled-run .1, say 1 (omega arith) 0 ∙ stalled-run .0, say 2 (omega arith) 0)
+
+-- so it is by the law, on every channel
+pub turns-same : (c : ℕ) → c < 3 → Comparable (turnsDeliver 0 c) (turnsDeliver 1 c)
+turns-same =
+    same-choices-bays line (1 ∷ 2 ∷ 3 ∷ []) (3 ∷ []) (line-in .0) turns turns 0 1 (omega arith) (omega arith) (λ x h e. absurd (line-in .1 x h e))
 
 -- the third step is refused
 pub turns-refused : answer line (1 ∷ 2 ∷ 3 ∷ []) (3 ∷ []) (recordAfter line (1 ∷ 2 ∷ 3 ∷ []) (3 ∷ []) begun) (step 4 all) .refusal ≡ 21
