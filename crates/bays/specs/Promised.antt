@@ -141,7 +141,7 @@ RefusedByUse =
     → answer net words ends (recordAfter net words ends calls) (step k masks) .refusal
     ≡ cond (leb 4 k) 21 (cond (not (accepted net)) 12 (cond (not (endsFit net words ends)) 14 (cond (leb 1048576 (recordAfter net words ends calls .used)) 16 0)))
 
--- So as far as the allowance goes no bay hinders another: of an accepted net, over streams that fit, all steps of a bay are its own that were not refused.
+-- So as far as the allowance goes no bay hinders another: of an accepted net, over ends that fit, no step of a bay is refused, and its own steps are all that were asked of it.
 abbrev pub NoneRefused : Type 0
 NoneRefused =
     (net : Net) (words ends : List ℕ) → accepted net ≡ true → endsFit net words ends ≡ true → (calls : List Call) → length calls ≤ 1048576
