@@ -10,7 +10,6 @@ use native.Mathlib.Omega.{arith}
 use borrow.Author.Tests.{eq-eqb, ne-eqb}
 use lib.Dec.{eqb}
 use lib.ListN.{getD, set, length, length-set, replicate}
-use lib.Seq.{getD-set-same, getD-set-other}
 use Rattle.blocks.proofs.Folds.{and-false-1, and-false-2}
 use Rattle.nets.specs.declared.Net.{Net}
 use Rattle.cycles.specs.declared.State.{State}
@@ -23,6 +22,7 @@ use Rattle.bays.specs.Calls.{stateAt, refusedBay}
 use Rattle.bays.specs.Promised.{Call, step, bayOf, masksOf, seenBy, answer, recordFrom, wordsOfBay, ownSteps}
 use Rattle.bays.specs.declared.Bays.{Bays}
 use Rattle.bays.specs.declared.BayStepped.{BayStepped}
+use Rattle.bays.proofs.Records.{states-same, state-set, state-kept}
 use Rattle.bays.proofs.Refusals.{Answered, bay-answer}
 
 -- nothing is marked where all marks are zero
@@ -108,21 +108,16 @@ module _ (net : Net) (words ends : List ℕ) where
   sees r k masks a b h four (inl s) =
       inl (record {
         not-own = s .unowned b h;
-        rests = ap (λ (l : List State). getD l b (record { count = 0; words = []; marks = [] })) (s .same);
+        rests = states-same (a .bays) r (s .same) b;
         quiet = λ c. none-said (eqb k b) _ (s .silent b c);
       })
   sees r k masks a b h four (inr s) = by (ℕ-discrete k b)
     where
-      here : stateAt (a .bays) k ≡ ownStep r k masks .state
-      here =
-          ap (λ (l : List State). getD l k (record { count = 0; words = []; marks = [] })) (s .moves)
-          ∙ getD-set-same (r .states) k (ownStep r k masks .state) _ (omega (arith, s .inside))
-
       by : Dec (k ≡ b) → Idle r k a b ⊎ Steps r k masks a b
       by (yes e) =
           inr (record {
             own = rw (eq-eqb k b e, eq-eqb _ 0 (s .works));
-            after = subst (λ (x : ℕ). stateAt (a .bays) x ≡ ownStep r x masks .state) e here;
+            after = subst (λ (x : ℕ). stateAt (a .bays) x ≡ ownStep r x masks .state) e (state-set (a .bays) r k (ownStep r k masks .state) (s .moves) four (s .inside));
             counted =
                 subst (λ (x : ℕ). ownStep r x masks .state .count ≡ stateAt r x .count + 1) e (count-rises net (stateAt r k) words ends (masks .0) (masks .1) (s .went));
             heard = λ c. rw (eq-eqb k b e) (subst (λ (x : ℕ). marked (seenBy b a) c ≡ marked (ownStep r x masks) c) e (s .says b c));
@@ -130,9 +125,7 @@ module _ (net : Net) (words ends : List ℕ) where
       by (no n) =
           inl (record {
             not-own = and-false-1 (eqb k b) _ (ne-eqb _ b n);
-            rests =
-                ap (λ (l : List State). getD l b (record { count = 0; words = []; marks = [] })) (s .moves)
-                ∙ getD-set-other (r .states) k b (ownStep r k masks .state) _ (λ q. n (sym q));
+            rests = state-kept (a .bays) r k (ownStep r k masks .state) (s .moves) b (λ q. n (sym q));
             quiet = λ c. rw (ne-eqb k b n);
           })
 

@@ -10,7 +10,6 @@ use native.Mathlib.Omega.{arith}
 use borrow.Author.Tests.{leb-false, le-leb, ltb-true}
 use lib.Dec.{eqb, leb, ltb}
 use lib.ListN.{length, getD-replicate}
-use lib.Seq.{getD-set-same, getD-set-other}
 use Rattle.blocks.proofs.Folds.{clash}
 use Rattle.blocks.proofs.Options.{test}
 use Rattle.nets.specs.declared.Net.{Net}
@@ -26,7 +25,7 @@ use Rattle.bays.specs.Calls.{stateAt, counts, recordOk, refusalBay, serv
 use Rattle.bays.specs.Promised.{Call, step, answer, recordFrom}
 use Rattle.bays.specs.declared.Bays.{Bays}
 use Rattle.bays.specs.declared.BayStepped.{BayStepped}
-use Rattle.bays.proofs.Records.{counts-high, counts-up, Good, of-good}
+use Rattle.bays.proofs.Records.{state-set, state-kept, counts-high, counts-up, Good, of-good}
 use Rattle.bays.proofs.Refusals.{Answered, bay-answer, refusal-bay-is}
 use Rattle.bays.proofs.Apart.{ownStep, still-four}
 
@@ -76,10 +75,10 @@ module _ (net : Net) (words ends : List ℕ) where
 
   module _ (r : Bays) (k : ℕ) (masks : ℕ × ℕ) (four : length (r .states) ≡ 4) (h : k < 4) where
     here : stateAt (next r k masks) k ≡ own r k masks .state
-    here = getD-set-same (r .states) k (own r k masks .state) _ (omega arith)
+    here = state-set (next r k masks) r k (own r k masks .state) refl four h
 
     there : (j : ℕ) → j ≢ k → stateAt (next r k masks) j ≡ stateAt r j
-    there j n = getD-set-other (r .states) k j (own r k masks .state) _ n
+    there = state-kept (next r k masks) r k (own r k masks .state) refl
 
     sum-up : own r k masks .refusal ≡ 0 → counts (next r k masks) 4 ≡ counts r 4 + 1
     sum-up e =
@@ -136,15 +135,15 @@ module _ (net : Net) (words ends : List ℕ) where
   -- ## Refusals
 
   -- the refusal of a bay by its tests, and that of a step of its own state
-  abbrev refusalOf : Bool → Bool → ℕ → Bool → ℕ
-  refusalOf a ok mine full = cond (not a) 12 (cond (not ok) 13 (cond (not (eqb mine 0)) mine (cond full 16 0)))
+  abbrev bayNumber : Bool → Bool → ℕ → Bool → ℕ
+  bayNumber a ok mine full = cond (not a) 12 (cond (not ok) 13 (cond (not (eqb mine 0)) mine (cond full 16 0)))
 
-  abbrev numberOf : Bool → Bool → Bool → Bool → ℕ
-  numberOf a shape fit last = cond (not a) 12 (cond (not shape) 13 (cond (not fit) 14 (cond false 15 (cond last 16 0))))
+  abbrev ownNumber : Bool → Bool → Bool → Bool → ℕ
+  ownNumber a shape fit last = cond (not a) 12 (cond (not shape) 13 (cond (not fit) 14 (cond false 15 (cond last 16 0))))
 
   -- where the record and the bay's state are in shape, and a bay that is at its last cycle has used the whole allowance
   by-use : (a ok shape fit last full : Bool) → (a ≡ true → ok ≡ true) → (a ≡ true → shape ≡ true) → (a ≡ true → last ≡ true → full ≡ true)
-      → refusalOf a ok (numberOf a shape fit last) full ≡ cond (not a) 12 (cond (not fit) 14 (cond full 16 0))
+      → bayNumber a ok (ownNumber a shape fit last) full ≡ cond (not a) 12 (cond (not fit) 14 (cond full 16 0))
   by-use false ok shape fit last full p q u = refl
   by-use true false shape fit last full p q u = clash (p refl) refl
   by-use true true false fit last full p q u = clash (q refl) refl

@@ -1,23 +1,43 @@
--- Laws of a record's own test: the states one after another, the sum of the counts, and the test by its parts.
+-- Laws of a record: its states where one of them is set; and of its own test: the states one after another, the sum of the counts, and the test by its parts.
 -- Assumes nothing.
 use Prim.Native.Nat.{ℕ, zero, suc, _+_, _≤_, _<_}
 use mathlib.Core.Path.{_≡_, refl, sym, _∙_, subst, ap}
 use mathlib.Core.Bool.{Bool, true, false, _&&_}
 use mathlib.Core.Logic.{_≢_}
-use mathlib.Core.List.{List}
+use mathlib.Core.List.{List, []}
 use native.Mathlib.Decide.{ℕ-discrete}
 use native.Mathlib.Omega.{arith}
 use borrow.Author.Tests.{eqb-true, eq-eqb, leb-true, le-leb}
 use lib.Dec.{leb, eqb}
+use lib.ListN.{getD, set, length}
+use lib.Seq.{getD-set-same, getD-set-other}
 use Rattle.blocks.specs.Folds.{allBelow}
 use Rattle.blocks.proofs.Folds.{and-1, and-2, and-both, all-at, all-in, all-fails, all-same}
 use Rattle.nets.specs.declared.Net.{Net}
 use Rattle.cycles.specs.State.{shapeOk}
+use Rattle.cycles.specs.declared.State.{State}
 use Rattle.rows.specs.Checks.{shapeNo}
 use Rattle.rows.specs.Flat.{Flat}
 use Rattle.sim.proofs.Results.{shape-same}
 use Rattle.bays.specs.Calls.{stateAt, inShapeAt, counts, recordOk}
 use Rattle.bays.specs.declared.Bays.{Bays}
+
+-- ## The states of a record q, by those of r
+
+-- the state of bay k in a list of states
+abbrev at : ℕ → List State → State
+at k l = getD l k (record { count = 0; words = []; marks = [] })
+
+pub states-same : (q r : Bays) → q .states ≡ r .states → (b : ℕ) → stateAt q b ≡ stateAt r b
+states-same q r e b = ap (at b) e
+
+-- where that of bay k is set to s
+module _ (q r : Bays) (k : ℕ) (s : State) (e : q .states ≡ set (r .states) k s) where
+  pub state-set : length (r .states) ≡ 4 → k < 4 → stateAt q k ≡ s
+  state-set four h = ap (at k) e ∙ getD-set-same (r .states) k s _ (omega arith)
+
+  pub state-kept : (j : ℕ) → j ≢ k → stateAt q j ≡ stateAt r j
+  state-kept j n = ap (at j) e ∙ getD-set-other (r .states) k j s _ n
 
 -- ## The states, by rows
 
