@@ -1,6 +1,6 @@
 # make run FORM=examples/add5.form: runs a stored net for 6 cycles and prints each delivery.
 # make placements FORM=examples/circle.form: lists where buffers may go in a stored net of at most 6 channels.
-# make bays: steps two bays of one net, of which one stalls, and uses up the allowance of cycles.
+# make bays: steps two bays of one net, of which one stalls, uses up the allowance of cycles, and lets three bays take turns.
 # make lib: the proved library and its header, in build/. make bench: its speed beside plain C.
 # make soak NETS=1000000 SEED=2: the library against the model over so many random nets, with a line of progress every ten seconds.
 # make test: every crate proved from nothing, the must-fail edits and the programs, then the host tests on the library. Its last line is 'N passed, 0 failed'.

@@ -1,8 +1,10 @@
-// Compares the program baytry with the model: four bays stepped in many orders, records that are spoilt, the allowance, faults together, refused forms.
+// Compares the program baytry with the model: four bays stepped in many orders and in turn, records that are spoilt, the allowance, faults together, refused
+// forms.
 // usage: baying BAYTRY CASE [SEED [NETS [random]]] (cases are written to the file CASE; one for which an answer differs stays there; random: without the cases
 // by hand)
 #define _POSIX_C_SOURCE 200809L
 #include "bayscenes.h"
+#include "bayturns.h"
 #include "comparing.h"
 #include <stdlib.h>
 #include <string.h>
@@ -17,6 +19,13 @@ static char *baytry, *case_file;
 // Steps and deliveries in the lines of the model's, by bay.
 static unsigned long steps[BAYS], deliveries[BAYS], fresh_refused, no_cases;
 
+// Calls of next, by the bay that they name or BAYS for none, and by refusal.
+enum { LAST_REFUSAL = NO_BAY };
+static unsigned long named[BAYS + 1][LAST_REFUSAL + 1];
+
+// The case whose lines are compared.
+static const struct scene *on_trial;
+
 static unsigned long equal_signs(const char *line, size_t len)
 {
     unsigned long count = 0;
@@ -24,22 +33,40 @@ static unsigned long equal_signs(const char *line, size_t len)
     return count;
 }
 
-static void note_line(const char *line, size_t len)
-{
-    unsigned bay, refusal;
-    if (sscanf(line, "bay %u: refusal %u", &bay, &refusal) == 2) {
-        count_refused(refusal);
-        if (refusal) return;
-        steps[bay]++;
-        deliveries[bay] += equal_signs(line, len);
-    } else if (sscanf(line, "load %u", &refusal) == 1) count_refused(refusal);
-    else if (sscanf(line, "fresh %u", &refusal) == 1) fresh_refused += refusal != 0;
-    else no_cases += *line == 'b';
-}
-
 static struct trial trial_of(const struct scene *s)
 {
     return (struct trial){s->class, s->seed, "case", s->bytes, s->len};
+}
+
+static void note_call(unsigned bay, unsigned refusal)
+{
+    struct trial trial = trial_of(on_trial);
+    const char *fault = fault_of_call(bay, refusal);
+    named[bay][refusal]++;
+    if (fault) fail_trial(&trial, fault);
+}
+
+static void note_step(unsigned bay, unsigned refusal, unsigned long delivered)
+{
+    count_refused(refusal);
+    if (refusal) return;
+    steps[bay]++;
+    deliveries[bay] += delivered;
+}
+
+static void note_line(const char *line, size_t len)
+{
+    unsigned bay, refusal;
+    if (sscanf(line, "bay %u: refusal %u", &bay, &refusal) == 2) note_step(bay, refusal, equal_signs(line, len));
+    else if (sscanf(line, "next bay %u: refusal %u", &bay, &refusal) == 2) {
+        note_call(bay, refusal);
+        note_step(bay, refusal, equal_signs(line, len));
+    } else if (sscanf(line, "next no bay: refusal %u", &refusal) == 1) {
+        note_call(BAYS, refusal);
+        count_refused(refusal);
+    } else if (sscanf(line, "load %u", &refusal) == 1) count_refused(refusal);
+    else if (sscanf(line, "fresh %u", &refusal) == 1) fresh_refused += refusal != 0;
+    else no_cases += *line == 'b';
 }
 
 static void compare_case(const struct scene *s)
@@ -47,6 +74,8 @@ static void compare_case(const struct scene *s)
     struct trial trial = trial_of(s);
     FILE *out = begin_model();
     print_case(out, s->bytes, s->len);
+    on_trial = s;
+    begin_waiting(s);
     write_trial(&trial, case_file);
     snprintf(call, sizeof call, "baytry %s", case_file);
     finish_trial(&trial, out, (char *[]){baytry, case_file, NULL}, NULL, note_line);
@@ -118,14 +147,14 @@ static void with_no_bays(struct scene *s, struct random *r, unsigned i)
     }
 }
 
-// Numbers whose last byte or last two bytes are a command, and those that stand beside commands.
+// Numbers whose last byte or last two bytes are a command, and those that stand behind the commands.
 static uint32_t no_command(struct random *r)
 {
     switch (below(r, 5)) {
-    case 0: return 259;
+    case 0: return NO_COMMAND;
     case 1: return NO_COMMAND + below(r, 16);
     case 2: return 256 * (2 + below(r, 254)) + below(r, BAYS);
-    case 3: return 65536 * (1 + below(r, 65535)) + (chance(r, 2) ? below(r, BAYS) : FRESH_RECORD + below(r, 16));
+    case 3: return 65536 * (1 + below(r, 65535)) + (chance(r, 2) ? below(r, BAYS) : FRESH_RECORD + below(r, NO_COMMAND - FRESH_RECORD));
     default: return 0x80000000 | random_bits(r);
     }
 }
@@ -133,9 +162,11 @@ static uint32_t no_command(struct random *r)
 static void with_no_commands(struct scene *s, struct random *r, unsigned i)
 {
     (void)i;
+    give_all_masks(s);
     while (commands_left(s) > 0) {
         add(s, no_command(r), below(r, 70), random_bits(r));
         step_some(s, r, below(r, 3));
+        if (chance(r, 3)) call_next(s, r, ALL_BAYS);
     }
 }
 
@@ -284,8 +315,11 @@ static void spoil_file(struct scene *s, struct random *r, unsigned i)
 
 // ---- Cases by hand, for the model itself
 
-// The command of a step with all masks set.
+// Commands: a step with all masks set; all masks set for later calls of next, of one bay and of all; such a call over the one end that there is.
 #define STEP(bay) {bay, ~0u, ~0u}
+#define MASKS(bay) {SET_MASKS + bay, ~0u, ~0u}
+#define ALL_MASKS MASKS(0), MASKS(1), MASKS(2), MASKS(3)
+#define CALL(want) {NEXT, want, 1}
 
 // netrun's net: source, data buffer, add 5, sink. A source whose word a fork copies, so that a merge has it on both inputs; sinks for its two outputs.
 static const struct drawn netrun[] = {{SOURCE, 0, 0, {0}}, {DATA, 0, 0, {0, 1}}, {CONSTANT, 0, 5, {1, 2}}, {SINK, 0, 0, {2}}};
@@ -303,27 +337,61 @@ static const struct known by_hand[] = {
     // Two bays, each with its own words; no fifth bay.
     {netrun, 4, 3, 7, {STEP(0), STEP(0), STEP(2), STEP(0), {1, 0, ~0u}, STEP(4), STEP(2)},
      "load 0\nfresh 0\nbay 0: refusal 0 0=1\nbay 0: refusal 0 0=2 1=1 2=6\nbay 2: refusal 0 0=1\nbay 0: refusal 0 0=3 1=2 2=7\nbay 1: refusal 0\n"
-     "bay 4: refusal 21\nbay 2: refusal 0 0=2 1=1 2=6\nused 6\nstate 0 count 3 0=3/0 1=3/1\nstate 1 count 1\nstate 2 count 2 0=2/0 1=2/1\nstate 3 count 0\n"},
+     "bay 4: refusal 21\nbay 2: refusal 0 0=2 1=1 2=6\nused 6 turn 0\n"
+     "state 0 count 3 0=3/0 1=3/1\nstate 1 count 1\nstate 2 count 2 0=2/0 1=2/1\nstate 3 count 0\n"},
     // One cycle is left for all: the bay that comes second does not get it, though it has made no step.
     {netrun, 4, 3, 9, {{SET_USED, ALLOWANCE - 1, 0}, {SET_COUNT + 3, ALLOWANCE - 1, 0}, STEP(1), STEP(0), STEP(3), {SET_COUNT + 3, ALLOWANCE, 0}, STEP(0),
       {FRESH_RECORD, 0, 0}, STEP(0)},
-     "load 0\nfresh 0\nbay 1: refusal 0 0=1\nbay 0: refusal 16\nbay 3: refusal 16\nbay 0: refusal 13\nfresh 0\nbay 0: refusal 0 0=1\nused 1\n"
+     "load 0\nfresh 0\nbay 1: refusal 0 0=1\nbay 0: refusal 16\nbay 3: refusal 16\nbay 0: refusal 13\nfresh 0\nbay 0: refusal 0 0=1\nused 1 turn 0\n"
      "state 0 count 1 0=1/0 1=1/1\nstate 1 count 0\nstate 2 count 0\nstate 3 count 0\n"},
     // What is wrong in one bay is refused in another; the number of the bay comes before the net, the net before the record.
     {netrun, 4, 3, 16, {{SET_WORD + 2, 1, 9}, STEP(0), {SET_MARKS + 2, 1, 1}, STEP(0), STEP(2), {SET_MARKS + 1, 4, 1}, STEP(0), {SET_CHANNELS, 2, 0}, STEP(0),
       STEP(255), {SET_CHANNELS, 3, 0}, {SET_MARKS + 1, 4, 0}, {SET_USED, 1, 0}, STEP(1), {SET_USED, 2, 0}, STEP(2)},
      "load 0\nfresh 0\nbay 0: refusal 13\nbay 0: refusal 0 0=1\nbay 2: refusal 0 0=1 1=9 2=14\nbay 0: refusal 13\nbay 0: refusal 12\nbay 255: refusal 21\n"
-     "bay 1: refusal 13\nbay 2: refusal 0 0=2 1=1 2=6\nused 3\nstate 0 count 1 0=1/0 1=1/1\nstate 1 count 0\nstate 2 count 2 0=2/0 1=2/1\nstate 3 count 0\n"},
+     "bay 1: refusal 13\nbay 2: refusal 0 0=2 1=1 2=6\nused 3 turn 0\n"
+     "state 0 count 1 0=1/0 1=1/1\nstate 1 count 0\nstate 2 count 2 0=2/0 1=2/1\nstate 3 count 0\n"},
     // Without masks nothing moves, but it counts; with a ready mask alone a word that is held goes on.
     {netrun, 4, 3, 6, {{3, 0, 0}, {3, ~0u, 0}, {3, ~0u, 0}, {3, 0, 0}, {3, 0, 1}, {3, 0, 1}},
      "load 0\nfresh 0\nbay 3: refusal 0\nbay 3: refusal 0 0=1\nbay 3: refusal 0\nbay 3: refusal 0\nbay 3: refusal 0 0=2 1=1 2=6\nbay 3: refusal 0 1=2 2=7\n"
-     "used 6\nstate 0 count 0\nstate 1 count 0\nstate 2 count 0\nstate 3 count 6 0=2/0\n"},
+     "used 6 turn 0\nstate 0 count 0\nstate 1 count 0\nstate 2 count 0\nstate 3 count 6 0=2/0\n"},
     // The shape of forks and merges: marks 2 of a fork of 2, then 3; winner 3 of 2, then marks 3; winner 2 whose report has gone; marks without a winner.
     // A source's position may be any number.
     {doubled, 5, 5, 17, {{SET_MARKS, 1, 2}, STEP(1), {SET_MARKS, 1, 3}, STEP(1), {SET_MARKS, 1, 0}, {SET_WORD, 2, 3}, STEP(1), {SET_WORD, 2, 2},
       {SET_MARKS, 2, 3}, STEP(1), {SET_MARKS, 2, 2}, STEP(0), {SET_MARKS + 3, 2, 1}, STEP(0), {SET_MARKS + 3, 2, 0}, {SET_WORD + 3, 0, 77}, STEP(3)},
      "load 0\nfresh 0\nbay 1: refusal 0 1=1 3=1 4=0\nbay 1: refusal 13\nbay 1: refusal 13\nbay 1: refusal 13\nbay 0: refusal 0 2=1 3=1\nbay 0: refusal 13\n"
-     "bay 3: refusal 0\nused 3\nstate 0 count 1 0=0/1 1=0/2\nstate 1 count 1 0=0/1 1=0/1\nstate 2 count 0\nstate 3 count 1 0=77/0\n"},
+     "bay 3: refusal 0\nused 3 turn 0\nstate 0 count 1 0=0/1 1=0/2\nstate 1 count 1 0=0/1 1=0/1\nstate 2 count 0\nstate 3 count 1 0=77/0\n"},
+    // All four want: they are served in turn, each with its own masks. Bay 0 offers only, bay 1 takes only, bay 3 does neither until it gets masks.
+    {netrun, 4, 3, 12, {{SET_MASKS, 1, 0}, {SET_MASKS + 1, 0, 1}, MASKS(2), CALL(15), CALL(15), CALL(15), CALL(15), CALL(15), CALL(15), CALL(15), MASKS(3),
+      CALL(15)},
+     "load 0\nfresh 0\nnext bay 0: refusal 0 0=1\nnext bay 1: refusal 0\nnext bay 2: refusal 0 0=1\nnext bay 3: refusal 0\nnext bay 0: refusal 0\n"
+     "next bay 1: refusal 0\nnext bay 2: refusal 0 0=2 1=1 2=6\nnext bay 3: refusal 0 0=1\nused 8 turn 0\n"
+     "state 0 count 2 0=1/1 1=1/1\nstate 1 count 2\nstate 2 count 2 0=2/0 1=2/1\nstate 3 count 2 0=1/0 1=1/1\n"},
+    // All but bay 2 want, and bay 1 finds no ends: it is served with 14, and comes again when the others have been served.
+    {netrun, 4, 3, 9, {ALL_MASKS, CALL(11), {NEXT, 11, 0}, CALL(11), CALL(11), CALL(11)},
+     "load 0\nfresh 0\nnext bay 0: refusal 0 0=1\nnext bay 1: refusal 14\nnext bay 3: refusal 0 0=1\nnext bay 0: refusal 0 0=2 1=1 2=6\n"
+     "next bay 1: refusal 0 0=1\nused 4 turn 2\nstate 0 count 2 0=2/0 1=2/1\nstate 1 count 1 0=1/0 1=1/1\nstate 2 count 0\nstate 3 count 1 0=1/0 1=1/1\n"},
+    // A turn of 7: masks that name none of the four are no fault, others are, and so is a step. A turn of 258 is one of 2.
+    {netrun, 4, 3, 14, {ALL_MASKS, {SET_TURN, 7, 0}, CALL(0), CALL(0x80000010), CALL(1), {NEXT, 15, 0}, STEP(3), STEP(4), {SET_TURN, 258, 0}, CALL(0),
+      CALL(0xf5)},
+     "load 0\nfresh 0\nnext no bay: refusal 0\nnext no bay: refusal 0\nnext no bay: refusal 13\nnext no bay: refusal 13\nbay 3: refusal 13\n"
+     "bay 4: refusal 21\nnext no bay: refusal 0\nnext bay 2: refusal 0 0=1\nused 1 turn 3\n"
+     "state 0 count 0\nstate 1 count 0\nstate 2 count 1 0=1/0 1=1/1\nstate 3 count 0\n"},
+    // The same with a net that is spoilt: the turn comes before the net in a call, and behind it in a step. From a turn within the four bays each call earns 12
+    // and moves it.
+    {netrun, 4, 3, 14, {ALL_MASKS, {SET_CHANNELS, 2, 0}, {SET_TURN, 7, 0}, CALL(15), STEP(0), CALL(16), {SET_TURN, 3, 0}, CALL(15), CALL(14),
+      {SET_CHANNELS, 3, 0}, CALL(15)},
+     "load 0\nfresh 0\nnext no bay: refusal 13\nbay 0: refusal 12\nnext no bay: refusal 0\nnext bay 3: refusal 12\nnext bay 1: refusal 12\n"
+     "next bay 2: refusal 0 0=1\nused 1 turn 3\nstate 0 count 0\nstate 1 count 0\nstate 2 count 1 0=1/0 1=1/1\nstate 3 count 0\n"},
+    // Steps outside leave the turn, refused or not; a fresh record begins with bay 0 again, and the masks stay. From turn 3 the bays below are asked in turn.
+    {netrun, 4, 3, 14, {ALL_MASKS, CALL(15), STEP(1), STEP(1), STEP(7), STEP(3), CALL(15), {FRESH_RECORD, 0, 0}, CALL(15), CALL(4), CALL(3)},
+     "load 0\nfresh 0\nnext bay 0: refusal 0 0=1\nbay 1: refusal 0 0=1\nbay 1: refusal 0 0=2 1=1 2=6\nbay 7: refusal 21\nbay 3: refusal 0 0=1\n"
+     "next bay 1: refusal 0 0=3 1=2 2=7\nfresh 0\nnext bay 0: refusal 0 0=1\nnext bay 2: refusal 0 0=1\nnext bay 0: refusal 0 0=2 1=1 2=6\n"
+     "used 3 turn 1\nstate 0 count 2 0=2/0 1=2/1\nstate 1 count 0\nstate 2 count 1 0=1/0 1=1/1\nstate 3 count 0\n"},
+    // What is wrong in bay 2 is refused in bay 0 and in bay 2, and each has had its turn; so is every bay when the allowance is used up.
+    {netrun, 4, 3, 15, {ALL_MASKS, {SET_WORD + 2, 1, 9}, CALL(15), CALL(4), CALL(0), {SET_WORD + 2, 1, 0}, CALL(15), {SET_COUNT + 1, ALLOWANCE - 1, 0},
+      {SET_USED, ALLOWANCE, 0}, CALL(15), CALL(15), STEP(2)},
+     "load 0\nfresh 0\nnext bay 0: refusal 13\nnext bay 2: refusal 13\nnext no bay: refusal 0\nnext bay 3: refusal 0 0=1\nnext bay 0: refusal 16\n"
+     "next bay 1: refusal 16\nbay 2: refusal 16\nused 1048576 turn 2\nstate 0 count 0\nstate 1 count 1048575\nstate 2 count 0\nstate 3 count 1 0=1/0 1=1/1\n"},
 };
 
 static void compare_by_hand(const struct scene *s, const struct known *known)
@@ -380,7 +448,22 @@ static const struct { const char *name; scene_rule *net, *commands; unsigned tim
     {"fresh records in the middle", draw_small, with_fresh_records, 1},
     {"nets of 64 blocks or almost", draw_large, in_random_order, 1},
     {"files that are no case, or hardly one", draw_small, spoil_file, 1},
+    {"calls in turn", draw_small, in_turn, 3},
+    {"one bay wanting in every call", draw_small, with_one_waiting, 2},
+    {"every turn with every mask", draw_small, with_every_turn, 1},
+    {"masks that name no bay", draw_small, with_empty_masks, 1},
+    {"turns beyond the four bays", draw_small, with_turns_beyond, 2},
+    {"calls refused in turn", draw_small, with_refused_calls, 3},
+    {"calls over some of the ends", draw_any_ends, over_some_ends, 1},
+    {"several faults at once in a call", draw_any_ends, with_faults_in_turn, 2},
+    {"fresh records between calls", draw_small, with_fresh_turns, 1},
+    {"refused forms, in turn", draw_refused, with_turns_beyond, 1},
+    {"nets of 64 blocks or almost, in turn", draw_large, in_turn, 1},
 };
+
+// The refusals that a bay may be served with.
+enum { SERVED_REFUSALS = 4 };
+static const unsigned served_refusals[SERVED_REFUSALS] = {BAD_NET, BAD_RECORD, BAD_ENDS, ALLOWANCE_USED};
 
 // What the nets were like.
 static unsigned long of_kind[KINDS], of_64_blocks;
@@ -391,24 +474,41 @@ static void note_net(const struct draft *d)
     of_64_blocks += d->blocks == 64;
 }
 
-static void try_class(unsigned class, unsigned nets)
+static void try_case(unsigned class, unsigned i)
 {
     static struct scene s;
-    for (unsigned i = 0; i < nets * classes[class].times; i++) {
-        struct random r = random_for(1 + class, i);
-        s.class = classes[class].name;
-        s.seed = r.first;
-        classes[class].net(&s, &r, i);
-        note_net(&s.draft);
-        begin_case(&s);
-        classes[class].commands(&s, &r, i);
-        compare_case(&s);
-    }
+    struct random r = random_for(1 + class, i);
+    s.class = classes[class].name;
+    s.seed = r.first;
+    classes[class].net(&s, &r, i);
+    note_net(&s.draft);
+    begin_case(&s);
+    classes[class].commands(&s, &r, i);
+    compare_case(&s);
+}
+
+// The next cases of every class, so that what only one class shows is met early.
+static void try_classes(unsigned net)
+{
+    for (unsigned class = 0; class < sizeof classes / sizeof classes[0]; class++)
+        for (unsigned n = 0; n < classes[class].times; n++) try_case(class, net * classes[class].times + n);
+}
+
+static unsigned long calls_refused(unsigned refusal)
+{
+    unsigned long count = 0;
+    for (unsigned k = 0; k < BAYS; k++) count += named[k][refusal];
+    return count;
 }
 
 static void print_notes(void)
 {
-    for (unsigned k = 0; k < BAYS; k++) printf("bay %u: %lu steps, %lu words delivered\n", k, steps[k], deliveries[k]);
+    for (unsigned k = 0; k < BAYS; k++)
+        printf("bay %u: %lu steps, %lu of them in turn, %lu words delivered\n", k, steps[k], named[k][0], deliveries[k]);
+    printf("calls that name no bay: %lu, from a turn beyond the bays: %lu; bays served in their fourth call: %lu; served and refused", named[BAYS][0],
+           named[BAYS][BAD_RECORD], served_fourth());
+    for (unsigned i = 0; i < SERVED_REFUSALS; i++)
+        printf(" %u: %lu%s", served_refusals[i], calls_refused(served_refusals[i]), i + 1 < SERVED_REFUSALS ? "," : "\n");
     printf("fresh records refused: %lu, files that are no case: %lu, nets of 64 blocks: %lu\nblocks of kind", fresh_refused, no_cases, of_64_blocks);
     for (unsigned kind = 0; kind < KINDS; kind++) printf(" %u: %lu%s", kind, of_kind[kind], kind + 1 < KINDS ? "," : "\n");
 }
@@ -423,10 +523,20 @@ static void require_refusals(void)
     }
 }
 
+static void require_calls(void)
+{
+    for (unsigned k = 0; k < BAYS; k++) require(named[k][0] > 0, "a step of each bay in turn");
+    for (unsigned i = 0; i < SERVED_REFUSALS; i++) require(calls_refused(served_refusals[i]) > 0, "a refusal of a bay that is served");
+    require(named[BAYS][0] > 0, "a mask that names no bay");
+    require(named[BAYS][BAD_RECORD] > 0, "a turn beyond the four bays");
+    require(served_fourth() > 0, "a bay that is served in the fourth call");
+}
+
 // What the cases have to show, from 12 nets for each class on.
 static void require_notes(void)
 {
     require_refusals();
+    require_calls();
     for (unsigned k = 0; k < BAYS; k++) require(deliveries[k] > 0, "a delivery in each bay");
     for (unsigned kind = 0; kind < KINDS; kind++) require(of_kind[kind] > 0, "a kind of block");
     require(fresh_refused > 0, "a fresh record that is refused");
@@ -445,7 +555,7 @@ int main(int count, char **arguments)
     if (count > 3) first_seed = strtoull(arguments[3], NULL, 10);
     unsigned nets = count > 4 ? (unsigned)strtoul(arguments[4], NULL, 10) : NETS;
     if (count <= 5) try_by_hand();
-    for (unsigned class = 0; class < sizeof classes / sizeof classes[0]; class++) try_class(class, nets);
+    for (unsigned net = 0; net < nets; net++) try_classes(net);
     if (nets >= FEWEST_NETS) require_notes();
     print_notes();
     print_classes();

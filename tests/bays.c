@@ -1,20 +1,27 @@
-// Four bays on one net: each bay's step is the model's cycle on a state of its own; the record is judged whole before each step.
+// Four bays on one net: each bay's step is the model's cycle on a state of its own; the record is judged whole before each step. A call of next steps the bay
+// whose turn it is.
 #include "bays.h"
 #include "model.c"
 
 enum { REGISTERS = 64, CHANNELS = 128 };
 
 struct state { uint32_t count; struct reg reg[REGISTERS]; };
-struct record { struct state state[BAYS]; uint32_t used; };
+
+// The turn is the bay that the next call of next asks first.
+struct record { struct state state[BAYS]; uint32_t used, turn; };
 
 // What a step gave out on each channel.
 struct given { uint32_t mark[CHANNELS], word[CHANNELS]; };
 
-// The net as it was loaded, with its refusal; how many channels the net value names now; the streams; the record.
+// The bay that a call of next named, or BAYS for none, and its refusal.
+struct served { uint32_t bay, refusal; };
+
+// The net as it was loaded, with its refusal; how many channels the net value names now; the streams; the record; every bay's masks, offer then ready.
 struct depot {
     struct circuit circuit;
     uint32_t refusal, channels, word_count, end_count;
     struct record record;
+    uint32_t masks[2 * BAYS];
 };
 
 // ---- Refusals
@@ -59,7 +66,7 @@ static int record_is_bad(const struct net *net, const struct record *record)
 {
     for (unsigned k = 0; k < BAYS; k++)
         if (!state_in_shape(net, &record->state[k])) return 1;
-    return record->used != sum_of_counts(record) || record->used > ALLOWANCE;
+    return record->used != sum_of_counts(record) || record->used > ALLOWANCE || record->turn >= BAYS;
 }
 
 static int ends_are_bad(struct depot *d)
@@ -77,7 +84,7 @@ static uint32_t refusal_of_step(struct depot *d, uint32_t bay)
     return d->record.used == ALLOWANCE ? ALLOWANCE_USED : 0;
 }
 
-// ---- The two calls
+// ---- The three calls
 
 static uint32_t fresh_bays(struct depot *d)
 {
@@ -113,21 +120,67 @@ static uint32_t step_bay(struct depot *d, uint32_t bay, uint32_t offer, uint32_t
     return 0;
 }
 
+// Whether a mask of wanting bays names none of the four; bits beyond them are ignored.
+static int names_no_bay(uint32_t want)
+{
+    return want % (1u << BAYS) == 0;
+}
+
+// The first bay from the turn on, going round, that wants a cycle; one of them does.
+static uint32_t first_wanting(uint32_t turn, uint32_t want)
+{
+    uint32_t bay = turn;
+    while ((want >> bay & 1) == 0) bay = (bay + 1) % BAYS;
+    return bay;
+}
+
+static struct served next(struct depot *d, uint32_t want, struct given *given)
+{
+    if (names_no_bay(want)) return (struct served){BAYS, 0};
+    if (d->record.turn >= BAYS) return (struct served){BAYS, BAD_RECORD};
+    uint32_t bay = first_wanting(d->record.turn, want);
+    uint32_t refusal = step_bay(d, bay, d->masks[2 * bay], d->masks[2 * bay + 1], given);
+    d->record.turn = (bay + 1) % BAYS;
+    return (struct served){bay, refusal};
+}
+
 // The calls that a case makes: a stand-in has others here.
 static struct {
     uint32_t (*fresh)(struct depot *);
     uint32_t (*step)(struct depot *, uint32_t, uint32_t, uint32_t, struct given *);
-} calls = {fresh_bays, step_bay};
+    struct served (*next)(struct depot *, uint32_t, struct given *);
+} calls = {fresh_bays, step_bay, next};
 
 // ---- A case
+
+// The end of a line: the refusal and what was delivered.
+static void print_answer(FILE *out, uint32_t refusal, const struct given *given)
+{
+    fprintf(out, "refusal %u", refusal);
+    for (uint32_t c = 0; c < CHANNELS; c++)
+        if (given->mark[c]) fprintf(out, " %u=%u", c, given->word[c]);
+    putc('\n', out);
+}
 
 static void print_step(FILE *out, struct depot *d, uint32_t bay, uint32_t offer, uint32_t ready)
 {
     struct given given = {{0}, {0}};
-    fprintf(out, "bay %u: refusal %u", bay, calls.step(d, bay, offer, ready, &given));
-    for (uint32_t c = 0; c < CHANNELS; c++)
-        if (given.mark[c]) fprintf(out, " %u=%u", c, given.word[c]);
-    putc('\n', out);
+    uint32_t refusal = calls.step(d, bay, offer, ready, &given);
+    fprintf(out, "bay %u: ", bay);
+    print_answer(out, refusal, &given);
+}
+
+// A call of next over the first ends, or over all of them where there are not so many.
+static void print_next(FILE *out, struct depot *d, uint32_t want, uint32_t lent)
+{
+    struct given given = {{0}, {0}};
+    uint32_t all = d->end_count;
+    if (lent < all) d->end_count = lent;
+    struct served served = calls.next(d, want, &given);
+    d->end_count = all;
+    if (served.bay < BAYS) fprintf(out, "next bay %u: ", served.bay);
+    else fprintf(out, "next no bay: ");
+    print_answer(out, served.refusal, &given);
 }
 
 // Sets a part of one bay's state.
@@ -139,13 +192,23 @@ static void set_state(struct record *record, uint32_t command, uint32_t a, uint3
     else state->reg[a % REGISTERS].marks = b % 256;
 }
 
+// Sets one bay's masks for later calls of next.
+static void set_masks(struct depot *d, uint32_t bay, uint32_t offer, uint32_t ready)
+{
+    d->masks[2 * bay] = offer;
+    d->masks[2 * bay + 1] = ready;
+}
+
 static void print_command(FILE *out, struct depot *d, uint32_t command, uint32_t a, uint32_t b)
 {
     if (command <= LAST_STEP) print_step(out, d, command, a, b);
     else if (command == FRESH_RECORD) fprintf(out, "fresh %u\n", calls.fresh(d));
     else if (command == SET_USED) d->record.used = a;
     else if (command == SET_CHANNELS) d->channels = a % 256;
-    else if (command >= SET_COUNT && command < NO_COMMAND) set_state(&d->record, command, a, b);
+    else if (command == NEXT) print_next(out, d, a, b);
+    else if (command < SET_MASKS) set_state(&d->record, command, a, b);
+    else if (command < SET_TURN) set_masks(d, command - SET_MASKS, a, b);
+    else if (command == SET_TURN) d->record.turn = a % 256;
 }
 
 static void print_state(FILE *out, const struct record *record, unsigned k)
@@ -187,6 +250,6 @@ void print_case(FILE *out, const uint8_t *bytes, size_t len)
     fprintf(out, "load %u\nfresh %u\n", d.refusal, calls.fresh(&d));
     for (; len - at >= COMMAND_BYTES; at += COMMAND_BYTES)
         print_command(out, &d, number_at(bytes + at, 0), number_at(bytes + at, 1), number_at(bytes + at, 2));
-    fprintf(out, "used %u\n", d.record.used);
+    fprintf(out, "used %u turn %u\n", d.record.used, d.record.turn);
     for (unsigned k = 0; k < BAYS; k++) print_state(out, &d.record, k);
 }

@@ -15,9 +15,11 @@ enum { BAD_NET = 12, BAD_RECORD = 13, BAD_ENDS = 14, ALLOWANCE_USED = 16, NO_BAY
 // the form, the words, the ends; then commands of three numbers each.
 enum { CASE_ROOM = 4096, HEADER_BYTES = 12, COMMAND_BYTES = 12, MOST_WORDS = 256, MOST_ENDS = 64 };
 
-// A command up to 255 steps the bay of that number with an offer and a ready mask. The others: a fresh record, the cycles used, the net's channel count; and
-// for each bay, its number added, the count, the word register of a block, its marks. Other numbers do nothing.
-enum { LAST_STEP = 255, FRESH_RECORD = 256, SET_USED = 257, SET_CHANNELS = 258, SET_COUNT = 260, SET_WORD = 264, SET_MARKS = 268, NO_COMMAND = 272 };
+// A command up to 255 steps the bay of that number with an offer and a ready mask. The others: a fresh record, the cycles used, the net's channel count; a call
+// of next, with a mask of the bays that want a cycle and how many ends are lent to it at most; for each bay, its number added, the count, the word register of
+// a block, its marks, and its offer and ready mask for later calls of next; the turn. Other numbers do nothing.
+enum { LAST_STEP = 255, FRESH_RECORD = 256, SET_USED = 257, SET_CHANNELS = 258, NEXT = 259, SET_COUNT = 260, SET_WORD = 264, SET_MARKS = 268 };
+enum { SET_MASKS = 272, SET_TURN = 276, NO_COMMAND = 277 };
 
 // What baytry prints for a case.
 void print_case(FILE *out, const uint8_t *bytes, size_t len);

@@ -36,12 +36,18 @@ void begin_case(struct scene *s)
     s->len += s->form.len;
     put_numbers(s, s->words, s->word_count);
     put_numbers(s, s->ends, s->end_count);
+    s->commands_at = s->len;
 }
 
-// A step of a bay with its next masks; a number of no bay takes those of some bay.
+// A bay's next masks; a number of no bay takes those of some bay.
+static const uint32_t *next_masks(struct scene *s, unsigned bay)
+{
+    return s->masks[bay % BAYS] + 2 * (s->given[bay % BAYS]++ % MASK_CYCLES);
+}
+
 void step(struct scene *s, unsigned bay)
 {
-    const uint32_t *masks = s->masks[bay % BAYS] + 2 * (s->given[bay % BAYS]++ % MASK_CYCLES);
+    const uint32_t *masks = next_masks(s, bay);
     add(s, bay, masks[0], masks[1]);
 }
 
@@ -53,6 +59,61 @@ void step_some(struct scene *s, struct random *r, unsigned count)
 void step_each(struct scene *s)
 {
     for (unsigned k = 0; k < BAYS; k++) step(s, k);
+}
+
+// ---- Calls of next
+
+void give_masks(struct scene *s, unsigned bay)
+{
+    const uint32_t *masks = next_masks(s, bay);
+    add(s, SET_MASKS + bay, masks[0], masks[1]);
+}
+
+void give_all_masks(struct scene *s)
+{
+    for (unsigned k = 0; k < BAYS; k++) give_masks(s, k);
+}
+
+void call_next_over(struct scene *s, uint32_t want, uint32_t lent)
+{
+    add(s, NEXT, want, lent);
+}
+
+// Any number from that of the ends on means all of them.
+void call_next(struct scene *s, struct random *r, uint32_t want)
+{
+    uint32_t all = (uint32_t)s->end_count;
+    call_next_over(s, want, ONE_OF(r, all, all, all + 1, 256, 65536, 0x80000000, 0xffffffff));
+}
+
+// The number as the command takes it: the remainder for 256 counts.
+void set_turn(struct scene *s, struct random *r, uint32_t turn)
+{
+    add(s, SET_TURN, turn + 256 * (chance(r, 4) ? below(r, 1000) : 0), below(r, 9));
+}
+
+uint32_t draw_want(struct random *r, unsigned way, unsigned bay)
+{
+    uint32_t any = below(r, ALL_BAYS + 1), other = below(r, ALL_BAYS + 1);
+    switch (way) {
+    case WANT_ALL: return ALL_BAYS;
+    case WANT_ONE: return 1u << any % BAYS;
+    case WANT_FEW: return any & other;
+    case WANT_ALWAYS: return any | 1u << bay;
+    default: return any;
+    }
+}
+
+uint32_t draw_beyond(struct random *r)
+{
+    uint32_t any = random_bits(r) & ~(uint32_t)ALL_BAYS;
+    return chance(r, 2) ? 0 : ONE_OF(r, 0x10, 0x20, 0x100, 0x80000000, 0xfffffff0, any);
+}
+
+uint32_t draw_turn_beyond(struct random *r)
+{
+    uint32_t any = BAYS + below(r, 256 - BAYS);
+    return ONE_OF(r, 4, 5, 6, 7, 8, 9, 16, 64, 128, 252, 255, any, any, any);
 }
 
 // ---- Nets and streams

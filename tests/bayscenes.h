@@ -8,14 +8,14 @@
 // So many cycles have masks for each bay, more than a case has room for.
 enum { MASK_CYCLES = 360 };
 
-// A case as it grows, the net and the streams that it is made from, and for each bay its masks and how many steps it was given.
+// A case as it grows and where its commands begin, the net and the streams that it is made from, and for each bay its masks and how many of them were given.
 struct scene {
     const char *class;
     uint64_t seed;
     struct draft draft;
     struct form form;
     uint32_t words[MOST_WORDS], ends[MOST_ENDS], masks[BAYS][2 * MASK_CYCLES];
-    size_t word_count, end_count, given[BAYS], len;
+    size_t word_count, end_count, given[BAYS], commands_at, len;
     uint8_t bytes[CASE_ROOM];
 };
 
@@ -29,6 +29,21 @@ void add(struct scene *s, uint32_t command, uint32_t a, uint32_t b);
 void step(struct scene *s, unsigned bay);
 void step_some(struct scene *s, struct random *r, unsigned count);
 void step_each(struct scene *s);
+
+// A bay's next masks, for later calls of next; those of each bay.
+void give_masks(struct scene *s, unsigned bay);
+void give_all_masks(struct scene *s);
+
+// A call of next over all ends, or over no more than some; a turn.
+void call_next(struct scene *s, struct random *r, uint32_t want);
+void call_next_over(struct scene *s, uint32_t want, uint32_t lent);
+void set_turn(struct scene *s, struct random *r, uint32_t turn);
+
+// A mask of the bays that want a cycle: any, all, one, few, or one bay always and others at times; bits beyond the four bays, or none; a turn beyond them.
+enum { WANT_ANY, WANT_ALL, WANT_ONE, WANT_FEW, WANT_ALWAYS, WANT_WAYS, ALL_BAYS = 15 };
+uint32_t draw_want(struct random *r, unsigned way, unsigned bay);
+uint32_t draw_beyond(struct random *r);
+uint32_t draw_turn_beyond(struct random *r);
 
 // A net with streams and masks: small; small with a merge; of 64 blocks or almost; small with streams that are spoilt, each time or every second time; with a
 // form that is refused, for each refusal in turn.

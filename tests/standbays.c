@@ -101,6 +101,22 @@ static int broken_record_is_bad(const struct net *net, const struct record *reco
 
 // ---- Refusals in some order
 
+// The turn as it is taken.
+static uint32_t taken_turn(const struct record *record)
+{
+#ifdef TURN_MODULO_4
+    return record->turn % BAYS;
+#elif defined TURN_MODULO_8
+    return record->turn % 8;
+#elif defined TURN_OF_4_PASSED
+    return record->turn == BAYS ? 0 : record->turn;
+#elif defined TURN_BEYOND_IS_0
+    return record->turn >= BAYS ? 0 : record->turn;
+#else
+    return record->turn;
+#endif
+}
+
 static int no_such_bay(uint32_t bay)
 {
 #ifdef LAST_BAY_MISSING
@@ -129,21 +145,34 @@ static int allowance_is_used(const struct record *record, uint32_t bay)
 #endif
 }
 
+// The turn is a part of the record, but may be looked at in another place. It earns the record's number.
+enum { BAD_TURN = 113 };
+
 static const uint32_t order[] = {
 #ifdef BAY_AFTER_NET
-    BAD_NET, NO_BAY, BAD_RECORD, BAD_ENDS, ALLOWANCE_USED
+    BAD_NET, NO_BAY, BAD_TURN, BAD_RECORD, BAD_ENDS, ALLOWANCE_USED
 #elif defined BAY_LAST
-    BAD_NET, BAD_RECORD, BAD_ENDS, ALLOWANCE_USED, NO_BAY
+    BAD_NET, BAD_TURN, BAD_RECORD, BAD_ENDS, ALLOWANCE_USED, NO_BAY
 #elif defined RECORD_BEFORE_NET
-    NO_BAY, BAD_RECORD, BAD_NET, BAD_ENDS, ALLOWANCE_USED
+    NO_BAY, BAD_TURN, BAD_RECORD, BAD_NET, BAD_ENDS, ALLOWANCE_USED
 #elif defined ENDS_BEFORE_RECORD
-    NO_BAY, BAD_NET, BAD_ENDS, BAD_RECORD, ALLOWANCE_USED
+    NO_BAY, BAD_NET, BAD_ENDS, BAD_TURN, BAD_RECORD, ALLOWANCE_USED
 #elif defined ALLOWANCE_BEFORE_ENDS
-    NO_BAY, BAD_NET, BAD_RECORD, ALLOWANCE_USED, BAD_ENDS
+    NO_BAY, BAD_NET, BAD_TURN, BAD_RECORD, ALLOWANCE_USED, BAD_ENDS
 #elif defined ALLOWANCE_BEFORE_RECORD
-    NO_BAY, BAD_NET, ALLOWANCE_USED, BAD_RECORD, BAD_ENDS
-#else
+    NO_BAY, BAD_NET, ALLOWANCE_USED, BAD_TURN, BAD_RECORD, BAD_ENDS
+#elif defined TURN_BEFORE_BAY
+    BAD_TURN, NO_BAY, BAD_NET, BAD_RECORD, BAD_ENDS, ALLOWANCE_USED
+#elif defined TURN_BEFORE_NET
+    NO_BAY, BAD_TURN, BAD_NET, BAD_RECORD, BAD_ENDS, ALLOWANCE_USED
+#elif defined TURN_AFTER_ENDS
+    NO_BAY, BAD_NET, BAD_RECORD, BAD_ENDS, BAD_TURN, ALLOWANCE_USED
+#elif defined TURN_AFTER_ALLOWANCE
+    NO_BAY, BAD_NET, BAD_RECORD, BAD_ENDS, ALLOWANCE_USED, BAD_TURN
+#elif defined TURN_NOT_SEEN_IN_A_STEP
     NO_BAY, BAD_NET, BAD_RECORD, BAD_ENDS, ALLOWANCE_USED
+#else
+    NO_BAY, BAD_NET, BAD_TURN, BAD_RECORD, BAD_ENDS, ALLOWANCE_USED
 #endif
 };
 
@@ -152,6 +181,7 @@ static int earns(struct depot *d, uint32_t bay, uint32_t refusal)
     switch (refusal) {
     case NO_BAY: return no_such_bay(bay);
     case BAD_NET: return net_is_bad(d);
+    case BAD_TURN: return taken_turn(&d->record) >= BAYS;
     case BAD_RECORD: return broken_record_is_bad(&d->circuit.net, &d->record, bay);
     case BAD_ENDS: return ends_are_bad(d);
     default: return allowance_is_used(&d->record, bay);
@@ -161,7 +191,7 @@ static int earns(struct depot *d, uint32_t bay, uint32_t refusal)
 static uint32_t broken_refusal(struct depot *d, uint32_t bay)
 {
     for (unsigned i = 0; i < sizeof order / sizeof order[0]; i++)
-        if (earns(d, bay, order[i])) return order[i];
+        if (earns(d, bay, order[i])) return order[i] == BAD_TURN ? BAD_RECORD : order[i];
     return 0;
 }
 
@@ -271,6 +301,8 @@ static uint32_t broken_step(struct depot *d, uint32_t bay, uint32_t offer, uint3
     return 0;
 }
 
+#include "standturns.c"
+
 // ---- Fresh records
 
 static uint32_t broken_fresh(struct depot *d)
@@ -291,6 +323,15 @@ static uint32_t broken_fresh(struct depot *d)
 #ifdef REFUSED_FRESH_KEEPS_RECORD
     if (refusal) d->record = before;
 #endif
+#ifdef FRESH_BEGINS_WITH_BAY_1
+    if (!refusal) d->record.turn = 1;
+#endif
+#ifdef FRESH_KEEPS_TURN
+    if (!refusal) d->record.turn = before.turn;
+#endif
+#ifdef REFUSED_FRESH_KEEPS_TURN
+    if (refusal) d->record.turn = before.turn;
+#endif
     return refusal;
 }
 
@@ -307,7 +348,8 @@ int main(int count, char **arguments)
 {
     FILE *file = count > 1 ? fopen(arguments[1], "rb") : NULL;
     calls.fresh = broken_fresh;
-    calls.step = broken_step;
+    calls.step = broken_step_outside;
+    calls.next = broken_next;
     if (file) print_file(file);
     else fprintf(stderr, "cannot read %s: %s\n", count > 1 ? arguments[1] : "a case", strerror(errno));
     return 0;

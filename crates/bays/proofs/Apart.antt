@@ -18,12 +18,13 @@ use Rattle.queue.specs.Delivered.{marked, over}
 use Rattle.sim.specs.Calls.{stepOf}
 use Rattle.claims.specs.Promised.{wordsFrom, stateFrom}
 use Rattle.claims.proofs.Theorems.{count-rises}
-use Rattle.bays.specs.Calls.{stateAt, refusedBay}
-use Rattle.bays.specs.Promised.{Call, step, bayOf, masksOf, seenBy, answer, recordFrom, wordsOfBay, ownSteps}
+use Rattle.bays.specs.Calls.{stateAt, refusedBay, masksAt, turnedTo}
+use Rattle.bays.specs.Promised.{Call, step, next, bayOf, masksOf, seenBy, answer, recordFrom, wordsOfBay, ownSteps}
 use Rattle.bays.specs.declared.Bays.{Bays}
 use Rattle.bays.specs.declared.BayStepped.{BayStepped}
 use Rattle.bays.proofs.Records.{states-same, state-set, state-kept}
 use Rattle.bays.proofs.Refusals.{Answered, bay-answer}
+use Rattle.bays.proofs.Turns.{next-cases}
 
 -- nothing is marked where all marks are zero
 zero-at : (n c : ℕ) → _≡_ {A = ℕ} (getD (replicate n 0) c 0) 0
@@ -59,14 +60,14 @@ module _ (net : Net) (words ends : List ℕ) where
     pub moves : a .bays .states ≡ set (r .states) k (ownStep r k masks .state)
     pub says : (b c : ℕ) → marked (seenBy b a) c ≡ marked (ownStep r k masks) c
 
-  -- what a call did
-  abbrev Did : Bays → Call → Type 0
-  Did r m = Still r (bayOf m) (answer net words ends r m) ⊎ Moved r (bayOf m) (masksOf m) (answer net words ends r m)
+  -- so much an answer for bay k does
+  abbrev Did : Bays → ℕ → ℕ × ℕ → BayStepped → Type 0
+  Did r k masks a = Still r k a ⊎ Moved r k masks a
 
-  pub did : (r : Bays) (m : Call) → Did r m
-  did r (step k masks) = by (bay-answer net r k words ends (masks .0) (masks .1))
+  did-step : (r : Bays) (k : ℕ) (masks : ℕ × ℕ) → Did r k masks (answer net words ends r (step k masks))
+  did-step r k masks = by (bay-answer net r k words ends (masks .0) (masks .1))
     where
-      by : Answered net r k (ownStep r k masks) (answer net words ends r (step k masks)) → Did r (step k masks)
+      by : Answered net r k (ownStep r k masks) (answer net words ends r (step k masks)) → Did r k masks (answer net words ends r (step k masks))
       by (inl n) =
           inl (record {
             unowned = λ b h. and-false-2 (eqb k b) _ (ne-eqb _ 0 (λ z. n .some-number (sym (ap (λ (a : BayStepped). a .refusal) (n .is)) ∙ z)));
@@ -81,6 +82,21 @@ module _ (net : Net) (words ends : List ℕ) where
             moves = ap (λ (a : BayStepped). a .bays .states) (s .is);
             says = λ b c. ap (λ (a : BayStepped). marked (seenBy b a) c) (s .is);
           })
+
+  -- the turn after it alters nothing of this
+  did-turned : (r : Bays) (k : ℕ) (masks : ℕ × ℕ) (a : BayStepped) → Did r k masks a → Did r k masks (turnedTo k a .step)
+  did-turned r k masks a (inl s) = inl (record { unowned = s .unowned; same = s .same; silent = s .silent })
+  did-turned r k masks a (inr s) = inr (record { inside = s .inside; works = s .works; went = s .went; moves = s .moves; says = s .says })
+
+  -- no bay is named
+  did-nothing : (r : Bays) (masks : ℕ × ℕ) (n : ℕ) → Did r 4 masks (refusedBay n r)
+  did-nothing r masks n = inl (record { unowned = λ b h. and-false-1 (eqb 4 b) _ (ne-eqb 4 b (λ e. omega arith)); same = refl; silent = refused-silent n r })
+
+  pub did : (r : Bays) (m : Call) → Did r (bayOf net words ends r m) (masksOf net words ends r m) (answer net words ends r m)
+  did r (step k masks) = did-step r k masks
+  did r (next masks want) =
+      next-cases net r words ends masks want (λ t. Did r (t .bay) (masksAt masks (t .bay)) (t .step)) (did-nothing r _ 0) (λ h. did-nothing r _ 13)
+      (λ k h. did-turned r k (masksAt masks k) _ (did-step r k (masksAt masks k)))
 
   -- ## What one bay sees of a call
 
@@ -104,7 +120,7 @@ module _ (net : Net) (words ends : List ℕ) where
   none-said true l e = e
   none-said false l e = refl
 
-  sees : (r : Bays) (k : ℕ) (masks : ℕ × ℕ) (a : BayStepped) (b : ℕ) → b < 4 → length (r .states) ≡ 4 → Still r k a ⊎ Moved r k masks a → Idle r k a b ⊎ Steps r k masks a b
+  sees : (r : Bays) (k : ℕ) (masks : ℕ × ℕ) (a : BayStepped) (b : ℕ) → b < 4 → length (r .states) ≡ 4 → Did r k masks a → Idle r k a b ⊎ Steps r k masks a b
   sees r k masks a b h four (inl s) =
       inl (record {
         not-own = s .unowned b h;
@@ -133,7 +149,7 @@ module _ (net : Net) (words ends : List ℕ) where
   pub still-four : (r : Bays) (m : Call) → length (r .states) ≡ 4 → length (answer net words ends r m .bays .states) ≡ 4
   still-four r m four = by (did r m)
     where
-      by : Did r m → length (answer net words ends r m .bays .states) ≡ 4
+      by : {k : ℕ} {masks : ℕ × ℕ} → Did r k masks (answer net words ends r m) → length (answer net words ends r m .bays .states) ≡ 4
       by (inl s) = ap (λ (l : List State). length l) (s .same) ∙ four
       by (inr s) = ap (λ (l : List State). length l) (s .moves) ∙ length-set (r .states) _ _ ∙ four
 
@@ -148,9 +164,9 @@ module _ (net : Net) (words ends : List ℕ) where
   pub follows : (r : Bays) (ms : List Call) (b : ℕ) → b < 4 → length (r .states) ≡ 4 → Follows r ms b
   follows r [] b h four = record { state-is = refl; count-is = omega arith; words-are = λ c. refl }
   follows r (m ∷ ms) b h four =
-      by (sees r (bayOf m) (masksOf m) (answer net words ends r m) b h four (did r m)) (follows (answer net words ends r m .bays) ms b h (still-four r m four))
+      by (sees r (bayOf net words ends r m) (masksOf net words ends r m) (answer net words ends r m) b h four (did r m)) (follows (answer net words ends r m .bays) ms b h (still-four r m four))
     where
-      by : Idle r (bayOf m) (answer net words ends r m) b ⊎ Steps r (bayOf m) (masksOf m) (answer net words ends r m) b
+      by : Idle r (bayOf net words ends r m) (answer net words ends r m) b ⊎ Steps r (bayOf net words ends r m) (masksOf net words ends r m) (answer net words ends r m) b
           → Follows (answer net words ends r m .bays) ms b → Follows r (m ∷ ms) b
       by (inl i) f =
           record {
@@ -162,5 +178,5 @@ module _ (net : Net) (words ends : List ℕ) where
           record {
             state-is = rw (s .own) (f .state-is ∙ rw (s .after));
             count-is = rw (s .own) (omega (arith, f .count-is, ap (λ (t : State). t .count) (s .after), s .counted));
-            words-are = λ c. rw (s .own, s .heard c) (ap (_++_ (marked (ownStep r b (masksOf m)) c)) (f .words-are c ∙ rw (s .after)));
+            words-are = λ c. rw (s .own, s .heard c) (ap (_++_ (marked (ownStep r b (masksOf net words ends r m)) c)) (f .words-are c ∙ rw (s .after)));
           }

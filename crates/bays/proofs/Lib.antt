@@ -1,6 +1,8 @@
--- Laws of a record, of a bay's refusal, and of what a call does to one bay.
+-- Laws of a record, of a bay's refusal, of the bay that has the turn, and of what a call does to one bay.
 pub mod Records
 pub mod Refusals
+pub mod Turns
+pub mod Fair
 pub mod Apart
 pub mod Kept
 -- The promises, proved, and instances of them.

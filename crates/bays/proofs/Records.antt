@@ -19,7 +19,7 @@ use Rattle.cycles.specs.declared.State.{State}
 use Rattle.rows.specs.Checks.{shapeNo}
 use Rattle.rows.specs.Flat.{Flat}
 use Rattle.sim.proofs.Results.{shape-same}
-use Rattle.bays.specs.Calls.{stateAt, inShapeAt, counts, recordOk}
+use Rattle.bays.specs.Calls.{stateAt, inShapeAt, counts, recordOk, withTurn}
 use Rattle.bays.specs.declared.Bays.{Bays}
 
 -- ## The states of a record q, by those of r
@@ -58,6 +58,11 @@ module _ (net : Net) (rows values : List ℕ) (flat : Flat net (net .size) rows 
 pub counts-four : (r : Bays) → counts r 4 ≡ stateAt r 0 .count + stateAt r 1 .count + stateAt r 2 .count + stateAt r 3 .count
 unfolding counts
 counts-four r = omega arith
+
+-- the turn is not looked at
+pub counts-turned : (turn : ℕ) (r : Bays) → counts r 4 ≡ counts (withTurn turn r) 4
+unfolding counts
+counts-turned turn r = refl
 
 pub counts-high : (r : Bays) (k n : ℕ) → k < n → stateAt r k .count ≤ counts r n
 unfolding counts
@@ -108,3 +113,6 @@ unfolding recordOk
 of-good net r g =
     and-both (allBelow (inShapeAt net r) 4) _ (all-in (inShapeAt net r) 4 (g .shapes))
     (and-both (eqb (r .used) (counts r 4)) _ (eq-eqb (r .used) (counts r 4) (g .sum)) (le-leb (r .used) 1048576 (g .within)))
+
+pub good-turned : (net : Net) (turn : ℕ) (r : Bays) → Good net r → Good net (withTurn turn r)
+good-turned net turn r g = record { shapes = g .shapes; sum = g .sum ∙ counts-turned turn r; within = g .within }

@@ -24,21 +24,24 @@ accepted-where net own p n = test (accepted net) (λ q. q) (λ q. absurd (n (p .
 -- what is known where nothing is refused
 pub record Passes (net : Net) (r : Bays) (own : ℕ) : Type 0 where
   pub accepts : accepted net ≡ true
+  pub turn-in : r .turn < 4
   pub in-shape : recordOk net r ≡ true
   pub works : own ≡ 0
   pub room : r .used < 1048576
 
 pub passes : (net : Net) (r : Bays) (own : ℕ) → refusalBay net r own ≡ 0 → Passes net r own
 unfolding refusalBay
-passes net r own e = by (accepted net) (recordOk net r) (eqb own 0) (leb 1048576 (r .used)) refl refl refl refl e
+passes net r own e = by (accepted net) (leb 4 (r .turn)) (recordOk net r) (eqb own 0) (leb 1048576 (r .used)) refl refl refl refl refl e
   where
-    by : (a b c d : Bool) → accepted net ≡ a → recordOk net r ≡ b → eqb own 0 ≡ c → leb 1048576 (r .used) ≡ d
-        → _≡_ {A = ℕ} (cond (not a) 12 (cond (not b) 13 (cond (not c) own (cond d 16 0)))) 0 → Passes net r own
-    by false b c d p q s t z = absurd (omega arith)
-    by true false c d p q s t z = absurd (omega arith)
-    by true true false d p q s t z = record { accepts = p; in-shape = q; works = z; room = absurd (eqb-false own 0 s z) }
-    by true true true true p q s t z = absurd (omega arith)
-    by true true true false p q s t z = record { accepts = p; in-shape = q; works = eqb-true own 0 s; room = leb-false 1048576 (r .used) t }
+    by : (a far b c d : Bool) → accepted net ≡ a → leb 4 (r .turn) ≡ far → recordOk net r ≡ b → eqb own 0 ≡ c → leb 1048576 (r .used) ≡ d
+        → _≡_ {A = ℕ} (cond (not a) 12 (cond far 13 (cond (not b) 13 (cond (not c) own (cond d 16 0))))) 0 → Passes net r own
+    by false far b c d p f q s t z = absurd (omega arith)
+    by true true b c d p f q s t z = absurd (omega arith)
+    by true false false c d p f q s t z = absurd (omega arith)
+    by true false true false d p f q s t z = absurd (eqb-false own 0 s z)
+    by true false true true true p f q s t z = absurd (omega arith)
+    by true false true true false p f q s t z =
+        record { accepts = p; turn-in = leb-false 4 (r .turn) f; in-shape = q; works = eqb-true own 0 s; room = leb-false 1048576 (r .used) t }
 
 -- no such bay
 pub bay-beyond : (net : Net) (r : Bays) (k : ℕ) (words ends : List ℕ) (offer ready : ℕ) → 4 ≤ k → stepBay net r k words ends offer ready ≡ refusedBay 21 r

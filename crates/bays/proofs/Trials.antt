@@ -1,14 +1,15 @@
 -- Bays worked out: two bays of document 01's trial net in turn, of which one stalls, with a refused step between them; a bay that uses the whole allowance and stops another one;
--- and two bays of a net with a merge, which choose differently.
+-- two bays of a net with a merge, which choose differently; and bays that take turns by `next`: all four, for which the last one waits for the fourth call, and three, of which
+-- one is refused.
 -- Assumes nothing.
-use Prim.Native.Nat.{ℕ, zero, suc, _<_}
-use mathlib.Core.Path.{_≡_, refl, ap, _∙_}
+use Prim.Native.Nat.{ℕ, zero, suc, _+_, _%_, _<_}
+use mathlib.Core.Path.{_≡_, refl, sym, ap, ap₂, _∙_, subst}
 use mathlib.Core.Bool.{true, false}
-use mathlib.Core.List.{List, [], _∷_, IsPrefix, List·Memᴰ}
+use mathlib.Core.List.{List, [], _∷_, IsPrefix, List·Memᴰ, List·Memᴰ·head, List·Memᴰ·tail}
 use native.Mathlib.Omega.{arith}
 use borrow.Author.Tests.{le-leb}
 use lib.Dec.{eqb}
-use lib.ListN.{length, replicate, length-replicate}
+use lib.ListN.{length, take, replicate, length-replicate}
 use Rattle.blocks.specs.Folds.{allBelow, countBelow, lowest, bit, bits}
 use Rattle.blocks.specs.Ports.{portsOf}
 use Rattle.blocks.specs.Words.{operate}
@@ -29,26 +30,30 @@ use Rattle.handshake.proofs.Tables.{merging}
 use Rattle.handshake.proofs.Chosen.{merging-run}
 use Rattle.claims.specs.Promised.{deliveredOf, choicesOf}
 use Rattle.claims.proofs.Trials.{as-accepted, as-chosen, line-in, merging-in}
-use Rattle.bays.specs.Calls.{stateAt}
-use Rattle.bays.specs.Promised.{Call, step, callsOf, answer, recordAfter, bayDelivered, bayChoices, ownOf}
+use Rattle.bays.specs.Calls.{stateAt, refusalBay, refusedBay, freshBays, stepBay, firstWanting, noBay, withTurn, nextBay}
+use Rattle.bays.specs.Promised.{Call, step, next, callsFrom, callsOf, answer, recordAfter, bayDelivered, bayChoices, ownOf, CallOn, on, named, Wants}
+use Rattle.bays.specs.declared.Bays.{Bays}
+use Rattle.bays.specs.declared.Turned.{Turned}
 use Rattle.bays.proofs.Records.{counts-four}
+use Rattle.bays.proofs.Kept.{fresh-turn, refusal-in}
 use Rattle.bays.proofs.Theorems.{bays-apart, own-choices, used-is-sum, count-is-steps, refused-by-use, none-refused, guaranteed-bays, same-choices-bays}
+use Rattle.bays.proofs.Theorems.{good-after, next-is-step, served-in-four}
 
 -- what a bay delivers, and chooses, in fewer calls than the allowance has cycles: what the steps asked of it do
 module _ (net : Net) (words ends : List ℕ) (acc : accepted net ≡ true) (fit : endsFit net words ends ≡ true) (calls : List Call) (few : length calls < 1048577) (b : ℕ) (h : b < 4) where
-  all-own : ownOf net words ends calls b ≡ callsOf calls b
+  all-own : ownOf net words ends calls b ≡ callsOf net words ends calls b
   all-own = none-refused net words ends acc fit calls (omega arith) b h
 
-  delivers : (c : ℕ) → bayDelivered net words ends calls b c ≡ delivered true net words ends (callsOf calls b) c
+  delivers : (c : ℕ) → bayDelivered net words ends calls b c ≡ delivered true net words ends (callsOf net words ends calls b) c
   delivers c =
       bays-apart net words ends calls b h .1 c ∙ ap (λ (masks : List (ℕ × ℕ)). deliveredOf net words ends masks c) all-own
-      ∙ as-accepted net acc words ends (callsOf calls b) c
+      ∙ as-accepted net acc words ends (callsOf net words ends calls b) c
 
-  chooses : (x : ℕ) → bayChoices net words ends calls b x ≡ choices true net words ends (callsOf calls b) x
+  chooses : (x : ℕ) → bayChoices net words ends calls b x ≡ choices true net words ends (callsOf net words ends calls b) x
   chooses x =
-      own-choices net words ends calls b h x ∙ ap (λ (masks : List (ℕ × ℕ)). choicesOf net words ends masks x) all-own ∙ as-chosen net acc words ends (callsOf calls b) x
+      own-choices net words ends calls b h x ∙ ap (λ (masks : List (ℕ × ℕ)). choicesOf net words ends masks x) all-own ∙ as-chosen net acc words ends (callsOf net words ends calls b) x
 
-  counted : stateAt (recordAfter net words ends calls) b .count ≡ length (callsOf calls b)
+  counted : stateAt (recordAfter net words ends calls) b .count ≡ length (callsOf net words ends calls b)
   counted = count-is-steps net words ends calls b h ∙ ap (λ (masks : List (ℕ × ℕ)). length masks) all-own
 
 -- ## Source 1, 2, 3; data buffer; add 5; sink
@@ -112,13 +117,18 @@ turns-used =
 
 -- ## One bay that uses the whole allowance
 
-busy-calls : (n : ℕ) (masks : ℕ × ℕ) → length (callsOf (replicate n (step 0 masks)) 0) ≡ n
-busy-calls zero masks = refl
-busy-calls (suc n) masks = ap suc (busy-calls n masks)
+module _ (net : Net) (words ends : List ℕ) (masks : ℕ × ℕ) where
+  -- the record after a step of bay 0
+  abbrev stepped : Bays → Bays
+  stepped r = answer net words ends r (step 0 masks) .bays
 
-no-calls : (n : ℕ) (masks : ℕ × ℕ) (b : ℕ) → eqb 0 b ≡ false → callsOf (replicate n (step 0 masks)) b ≡ []
-no-calls zero masks b e = refl
-no-calls (suc n) masks b e = rw e (no-calls n masks b e)
+  busy-calls : (n : ℕ) (r : Bays) → length (callsFrom net words ends r (replicate n (step 0 masks)) 0) ≡ n
+  busy-calls zero r = refl
+  busy-calls (suc n) r = ap suc (busy-calls n (stepped r))
+
+  no-calls : (n : ℕ) (r : Bays) (b : ℕ) → eqb 0 b ≡ false → callsFrom net words ends r (replicate n (step 0 masks)) b ≡ []
+  no-calls zero r b e = refl
+  no-calls (suc n) r b e = rw e (no-calls n (stepped r) b e)
 
 module _ (net : Net) (words ends : List ℕ) (acc : accepted net ≡ true) (fit : endsFit net words ends ≡ true) (masks : ℕ × ℕ) (n : ℕ) (most : n ≡ 1048576) where
   abbrev busy : List Call
@@ -127,7 +137,8 @@ module _ (net : Net) (words ends : List ℕ) (acc : accepted net ≡ true) (fit 
   busy-used : recordAfter net words ends busy .used ≡ n
   busy-used =
       let count = counted net words ends acc fit busy (omega (arith, length-replicate n (step 0 masks))) in
-      let none : (b : ℕ) → eqb 0 b ≡ false → length (callsOf busy b) ≡ 0 = λ b e. ap (λ (l : List (ℕ × ℕ)). length l) (no-calls n masks b e) in
+      let none : (b : ℕ) → eqb 0 b ≡ false → length (callsOf net words ends busy b) ≡ 0 =
+      λ b e. ap (λ (l : List (ℕ × ℕ)). length l) (no-calls net words ends masks n (freshBays net .bays) b e) in
       omega (
         arith,
         used-is-sum net words ends busy,
@@ -136,7 +147,7 @@ module _ (net : Net) (words ends : List ℕ) (acc : accepted net ≡ true) (fit 
         count 1 (omega arith),
         count 2 (omega arith),
         count 3 (omega arith),
-        busy-calls n masks,
+        busy-calls net words ends masks n (freshBays net .bays),
         none 1 refl,
         none 2 refl,
         none 3 refl,
@@ -180,3 +191,97 @@ pub both-guaranteed : (calls : List Call) (b : ℕ) → b < 4
     → IsPrefix (bayDelivered merging (10 ∷ 20 ∷ []) (1 ∷ 2 ∷ []) calls b c)
     (putBy merging (10 ∷ 20 ∷ []) (1 ∷ 2 ∷ []) (bayChoices merging (10 ∷ 20 ∷ []) (1 ∷ 2 ∷ []) calls b) F c))
 both-guaranteed = guaranteed-bays merging (10 ∷ 20 ∷ []) (1 ∷ 2 ∷ []) merging-in
+
+-- ## Bays that take turns
+
+-- a call of `next` on a net, words, ends and masks
+abbrev asks : ℕ → Net × List ℕ × List ℕ × List ℕ → CallOn
+asks want given = on (given .0) (given .1) (given .2) (next (given .3) want)
+
+-- all four want a cycle, over any nets and streams: they are named one after another, and bay 3 waits for the fourth call
+pub in-turn : (net : Net) (a b c d : Net × List ℕ × List ℕ × List ℕ)
+    → named (freshBays net .bays) (asks 15 a ∷ asks 15 b ∷ asks 15 c ∷ asks 15 d ∷ []) ≡ 0 ∷ 1 ∷ 2 ∷ 3 ∷ []
+unfolding freshBays nextBay firstWanting lowest bit
+in-turn net a b c d = refl
+
+-- bays 0, 1 and 2 want a cycle in six calls; bay 1's sink is not ready
+abbrev three : List ℕ
+three = 4294967295 ∷ 4294967295 ∷ 4294967295 ∷ 0 ∷ 4294967295 ∷ 4294967295 ∷ 0 ∷ 0 ∷ []
+
+abbrev panel : List Call
+panel = next three 7 ∷ next three 7 ∷ next three 7 ∷ next three 7 ∷ next three 7 ∷ next three 7 ∷ []
+
+-- each of them gets two
+panel-calls : (callsOf line (1 ∷ 2 ∷ 3 ∷ []) (3 ∷ []) panel 0 ≡ all ∷ all ∷ []) × (callsOf line (1 ∷ 2 ∷ 3 ∷ []) (3 ∷ []) panel 1 ≡ wait ∷ wait ∷ [])
+    × (callsOf line (1 ∷ 2 ∷ 3 ∷ []) (3 ∷ []) panel 2 ≡ all ∷ all ∷ []) × (callsOf line (1 ∷ 2 ∷ 3 ∷ []) (3 ∷ []) panel 3 ≡ [])
+unfolding freshBays nextBay firstWanting lowest bit
+panel-calls = (refl, refl, refl, refl)
+
+-- and makes them as it would alone: bays 0 and 2 deliver the same, and bay 1 waits
+abbrev alone : List (ℕ × ℕ) → List ℕ
+alone masks = delivered true line (1 ∷ 2 ∷ 3 ∷ []) (3 ∷ []) masks 2
+
+waiting-run : (alone (all ∷ all ∷ []) ≡ 6 ∷ []) × (alone (wait ∷ wait ∷ []) ≡ [])
+unfolding stepBy refusalBy shapeOk endsFit tab signals placeOf allBelow countBelow kindCount portsOf ins outs onSide bit operate
+waiting-run = (refl, refl)
+
+abbrev panelDeliver : ℕ → List ℕ
+panelDeliver b = bayDelivered line (1 ∷ 2 ∷ 3 ∷ []) (3 ∷ []) panel b 2
+
+pub panel-deliver : (panelDeliver 0 ≡ 6 ∷ []) × (panelDeliver 1 ≡ []) × (panelDeliver 2 ≡ 6 ∷ [])
+panel-deliver =
+    let say = delivers line (1 ∷ 2 ∷ 3 ∷ []) (3 ∷ []) (line-in .0) line-fits panel (omega arith) in (
+      say 0 (omega arith) 2 ∙ ap alone (panel-calls .0) ∙ waiting-run .0,
+      say 1 (omega arith) 2 ∙ ap alone (panel-calls .1) ∙ waiting-run .1,
+      say 2 (omega arith) 2 ∙ ap alone (panel-calls .2) ∙ waiting-run .0,
+    )
+
+-- the second call gets ends that do not fit: bay 1 is named, its step refused with 14, and nothing but the turn moves
+abbrev once : Bays
+once = recordAfter line (1 ∷ 2 ∷ 3 ∷ []) (3 ∷ []) (next three 7 ∷ [])
+
+abbrev second : Turned
+second = nextBay line once (1 ∷ 2 ∷ 3 ∷ []) (4 ∷ []) three 7
+
+second-bay : second .bay ≡ 1
+unfolding freshBays nextBay firstWanting lowest bit
+second-bay = refl
+
+line-unfit : endsFit line (1 ∷ 2 ∷ 3 ∷ []) (4 ∷ []) ≡ false
+unfolding endsFit kindCount countBelow
+line-unfit = refl
+
+second-number : second .step .refusal ≡ 14
+unfolding freshBays nextBay firstWanting lowest bit
+second-number =
+    refusal-in line (1 ∷ 2 ∷ 3 ∷ []) (4 ∷ []) once (omega arith) (λ a. good-after line (1 ∷ 2 ∷ 3 ∷ []) (3 ∷ []) a (next three 7 ∷ [])) 1 wait
+    ∙ rw (line-in .0, line-unfit)
+
+pub second-refused : second .step ≡ refusedBay 14 (withTurn 2 once)
+second-refused =
+    next-is-step line once (1 ∷ 2 ∷ 3 ∷ []) (4 ∷ []) three 7 .refused (λ e. omega (arith, second-bay)) (λ e. omega (arith, second-number))
+    ∙ ap₂ (λ (n k : ℕ). refusedBay n (withTurn ((k + 1) % 4) once)) second-number second-bay
+
+-- a stored turn beyond the four bays, of a net that is not accepted: `next` refuses the turn before it looks at the net, `step_bay` the net before the turn; and bit 4 is no bay's
+pub lost-turn : (net : Net) (r : Bays) (words ends masks : List ℕ) (offer ready : ℕ) → accepted net ≡ false
+    → (nextBay net (withTurn 7 r) words ends masks 1 ≡ noBay 13 (withTurn 7 r)) × (stepBay net (withTurn 7 r) 0 words ends offer ready .refusal ≡ 12)
+    × (nextBay net (withTurn 7 r) words ends masks 16 ≡ noBay 0 (withTurn 7 r))
+unfolding nextBay stepBay refusalBay
+lost-turn net r words ends masks offer ready bad = (refl, rw bad, refl)
+
+-- a bay among four calls of `next` on other nets and streams, with a step between them
+abbrev mixed : Net → List CallOn
+mixed net =
+    asks 7 (line, 1 ∷ 2 ∷ 3 ∷ [], 3 ∷ [], three) ∷ on line (1 ∷ 2 ∷ 3 ∷ []) (3 ∷ []) (step 3 all) ∷ asks 31 (line, 1 ∷ 2 ∷ 3 ∷ [], 4 ∷ [], three) ∷ asks 4 (net, [], [], [])
+    ∷ asks 6 (line, [], [], three) ∷ []
+
+mixed-wants : (net : Net) (m : CallOn) → List·Memᴰ m (mixed net) → Wants 2 m
+unfolding bit
+mixed-wants net m (List·Memᴰ·head e) = subst (Wants 2) (sym e) refl
+mixed-wants net m (List·Memᴰ·tail (List·Memᴰ·head e)) = subst (Wants 2) (sym e) tt
+mixed-wants net m (List·Memᴰ·tail (List·Memᴰ·tail (List·Memᴰ·head e))) = subst (Wants 2) (sym e) refl
+mixed-wants net m (List·Memᴰ·tail (List·Memᴰ·tail (List·Memᴰ·tail (List·Memᴰ·head e)))) = subst (Wants 2) (sym e) refl
+mixed-wants net m (List·Memᴰ·tail (List·Memᴰ·tail (List·Memᴰ·tail (List·Memᴰ·tail (List·Memᴰ·head e))))) = subst (Wants 2) (sym e) refl
+
+pub mixed-served : (net : Net) → List·Memᴰ 2 (take 4 (named (freshBays line .bays) (mixed net)))
+mixed-served net = served-in-four (freshBays line .bays) (fresh-turn line) 2 (omega arith) (mixed net) (mixed-wants net) (omega arith)

@@ -1,13 +1,14 @@
--- The promises over lists of calls on one net and one set of streams, from a fresh record (request 5), written with `freshBays` and `stepBay`: the contracts of `fresh_bays`
--- and `step_bay` say that these calls answer exactly so. proofs/Theorems.antt proves each one.
+-- The promises over lists of calls on one net and one set of streams, from a fresh record (requests 5 and 6), and on whose turn it is, written with `freshBays`, `stepBay` and
+-- `nextBay`: the contracts of `fresh_bays`, `step_bay` and `next` say that these calls answer exactly so. proofs/Theorems.antt proves each one.
 -- Assumes nothing.
-use Prim.Native.Nat.{ℕ, _≤_, _<_}
+use Prim.Native.Nat.{ℕ, _+_, _%_, _≤_, _<_}
 use mathlib.Core.Path.{_≡_}
 use mathlib.Core.Bool.{true, cond, not, _&&_}
 use mathlib.Core.Logic.{_≢_}
 use mathlib.Core.List.{List, [], _∷_, _++_, IsPrefix, List·Memᴰ}
 use lib.Dec.{leb, eqb}
-use lib.ListN.{length}
+use lib.ListN.{length, take}
+use Rattle.blocks.specs.Folds.{bit}
 use Rattle.nets.specs.Net.{blockAt}
 use Rattle.nets.specs.declared.Net.{Net}
 use Rattle.nets.proofs.Decided.{accepted}
@@ -20,34 +21,36 @@ use Rattle.queue.specs.Delivered.{marked, report, pending}
 use Rattle.queue.specs.Claims.{MergeFree, Comparable}
 use Rattle.sim.specs.Calls.{stepOf}
 use Rattle.claims.specs.Promised.{deliveredOf, endStateOf}
-use Rattle.bays.specs.Calls.{stateAt, counts, recordOk, refusedBay, servedBay, freshBays, stepBay}
+use Rattle.bays.specs.Calls.{stateAt, counts, recordOk, refusedBay, servedBay, freshBays, stepBay, masksAt, withTurn, serveNext, nextBay}
 use Rattle.bays.specs.declared.Bays.{Bays}
 use Rattle.bays.specs.declared.BayStepped.{BayStepped}
+use Rattle.bays.specs.declared.Turned.{Turned}
 
 -- ## A list of calls
 
--- `step_bay` with a bay and its masks, offer and ready
+-- `step_bay` with a bay and its masks, offer and ready; `next` with every bay's masks and the mask of the bays that want a cycle
 pub data Call : Type 0 where
   step : ℕ → ℕ × ℕ → Call
-
-abbrev pub bayOf : Call → ℕ
-bayOf (step k masks) = k
-
-abbrev pub masksOf : Call → ℕ × ℕ
-masksOf (step k masks) = masks
-
--- the masks of all calls for bay b
-abbrev pub callsOf : List Call → ℕ → List (ℕ × ℕ)
-callsOf [] b = []
-callsOf (m ∷ ms) b = cond (eqb (bayOf m) b) (masksOf m ∷ []) [] ++ callsOf ms b
+  next : List ℕ → ℕ → Call
 
 -- what bay b sees of an answer: the refusal, its own state, the marks and the words
 abbrev pub seenBy : ℕ → BayStepped → Stepped
 seenBy b a = record { refusal = a .refusal; state = stateAt (a .bays) b; delivered = a .delivered; words = a .words }
 
 module _ (net : Net) (words ends : List ℕ) where
+  -- the bay that a call on record r is for: of `next` the one that it names, 4 for none
+  abbrev pub bayOf : Bays → Call → ℕ
+  bayOf r (step k masks) = k
+  bayOf r (next masks want) = nextBay net r words ends masks want .bay
+
+  -- and that bay's masks
+  abbrev pub masksOf : Bays → Call → ℕ × ℕ
+  masksOf r (step k masks) = masks
+  masksOf r (next masks want) = masksAt masks (nextBay net r words ends masks want .bay)
+
   abbrev pub answer : Bays → Call → BayStepped
   answer r (step k masks) = stepBay net r k words ends (masks .0) (masks .1)
+  answer r (next masks want) = nextBay net r words ends masks want .step
 
   -- Calls one after another from record r, refused ones included: each gets the record that the last one returned.
 
@@ -59,12 +62,17 @@ module _ (net : Net) (words ends : List ℕ) where
   -- bay b's deliveries on channel c
   abbrev pub wordsOfBay : Bays → List Call → ℕ → ℕ → List ℕ
   wordsOfBay r [] b c = []
-  wordsOfBay r (m ∷ ms) b c = cond (eqb (bayOf m) b) (marked (seenBy b (answer r m)) c) [] ++ wordsOfBay (answer r m .bays) ms b c
+  wordsOfBay r (m ∷ ms) b c = cond (eqb (bayOf r m) b) (marked (seenBy b (answer r m)) c) [] ++ wordsOfBay (answer r m .bays) ms b c
+
+  -- the masks of all calls for bay b
+  abbrev pub callsFrom : Bays → List Call → ℕ → List (ℕ × ℕ)
+  callsFrom r [] b = []
+  callsFrom r (m ∷ ms) b = cond (eqb (bayOf r m) b) (masksOf r m ∷ []) [] ++ callsFrom (answer r m .bays) ms b
 
   -- the masks of "its own steps that weren't refused"
   abbrev pub ownSteps : Bays → List Call → ℕ → List (ℕ × ℕ)
   ownSteps r [] b = []
-  ownSteps r (m ∷ ms) b = cond (eqb (bayOf m) b && eqb (answer r m .refusal) 0) (masksOf m ∷ []) [] ++ ownSteps (answer r m .bays) ms b
+  ownSteps r (m ∷ ms) b = cond (eqb (bayOf r m) b && eqb (answer r m .refusal) 0) (masksOf r m ∷ []) [] ++ ownSteps (answer r m .bays) ms b
 
   -- from a fresh record
   abbrev pub recordAfter : List Call → Bays
@@ -72,6 +80,9 @@ module _ (net : Net) (words ends : List ℕ) where
 
   abbrev pub bayDelivered : List Call → ℕ → ℕ → List ℕ
   bayDelivered ms b c = wordsOfBay (freshBays net .bays) ms b c
+
+  abbrev pub callsOf : List Call → ℕ → List (ℕ × ℕ)
+  callsOf ms b = callsFrom (freshBays net .bays) ms b
 
   abbrev pub ownOf : List Call → ℕ → List (ℕ × ℕ)
   ownOf ms b = ownSteps (freshBays net .bays) ms b
@@ -118,7 +129,11 @@ BaysCarry =
 abbrev pub ShapeKeptBays : Type 0
 ShapeKeptBays = (net : Net) (words ends : List ℕ) → accepted net ≡ true → (calls : List Call) → recordOk net (recordAfter net words ends calls) ≡ true
 
--- So no step of a list from a fresh record is refused with 13, whatever the net.
+-- The turn stays within the four bays.
+abbrev pub TurnKept : Type 0
+TurnKept = (net : Net) (words ends : List ℕ) (calls : List Call) → recordAfter net words ends calls .turn < 4
+
+-- So no call of a list from a fresh record is refused with 13, whatever the net.
 abbrev pub Never13Bays : Type 0
 Never13Bays = (net : Net) (words ends : List ℕ) (calls : List Call) (m : Call) → answer net words ends (recordAfter net words ends calls) m .refusal ≢ 13
 
@@ -141,11 +156,62 @@ RefusedByUse =
     → answer net words ends (recordAfter net words ends calls) (step k masks) .refusal
     ≡ cond (leb 4 k) 21 (cond (not (accepted net)) 12 (cond (not (endsFit net words ends)) 14 (cond (leb 1048576 (recordAfter net words ends calls .used)) 16 0)))
 
+-- A call of `next` earns the same, unless its mask is empty.
+abbrev pub NextByUse : Type 0
+NextByUse =
+    (net : Net) (words ends : List ℕ) (calls : List Call) (masks : List ℕ) (want : ℕ)
+    → answer net words ends (recordAfter net words ends calls) (next masks want) .refusal
+    ≡ cond (eqb (want % 16) 0) 0 (cond (not (accepted net)) 12 (cond (not (endsFit net words ends)) 14 (cond (leb 1048576 (recordAfter net words ends calls .used)) 16 0)))
+
 -- So as far as the allowance goes no bay hinders another: of an accepted net, over ends that fit, no step of a bay is refused, and its own steps are all that were asked of it.
 abbrev pub NoneRefused : Type 0
 NoneRefused =
     (net : Net) (words ends : List ℕ) → accepted net ≡ true → endsFit net words ends ≡ true → (calls : List Call) → length calls ≤ 1048576
-    → (b : ℕ) → b < 4 → ownOf net words ends calls b ≡ callsOf calls b
+    → (b : ℕ) → b < 4 → ownOf net words ends calls b ≡ callsOf net words ends calls b
+
+-- ## Whose cycle is next
+
+-- "Mask bits beyond the four bays are ignored."
+abbrev pub BitsIgnored : Type 0
+BitsIgnored =
+    (net : Net) (r : Bays) (words ends masks : List ℕ) (want : ℕ) → nextBay net r words ends masks want ≡ nextBay net r words ends masks (want % 16)
+
+-- "Steps outside this call don't move the turn."
+abbrev pub StepKeepsTurn : Type 0
+StepKeepsTurn = (net : Net) (r : Bays) (k : ℕ) (words ends : List ℕ) (offer ready : ℕ) → stepBay net r k words ends offer ready .bays .turn ≡ r .turn
+
+-- what an answer t of `next` is: one that names no bay changes nothing; one that names a bay is `step_bay` of it with its masks, and the turn after it; "A refused step counts as
+-- service: it is reported, and moves the turn and nothing else"
+pub record IsNext (net : Net) (r : Bays) (words ends masks : List ℕ) (t : Turned) : Type 0 where
+  pub nobody : t .bay ≡ 4 → t .step ≡ refusedBay (t .step .refusal) r
+  pub serves : t .bay ≢ 4 → (t .bay < 4) × (t ≡ serveNext net r words ends masks (t .bay))
+  pub refused : t .bay ≢ 4 → t .step .refusal ≢ 0 → t .step ≡ refusedBay (t .step .refusal) (withTurn ((t .bay + 1) % 4) r)
+
+-- from any record
+abbrev pub NextIsStep : Type 0
+NextIsStep = (net : Net) (r : Bays) (words ends masks : List ℕ) (want : ℕ) → IsNext net r words ends masks (nextBay net r words ends masks want)
+
+-- a call with a net, words and ends of its own: whose turn it is does not depend on them
+pub data CallOn : Type 0 where
+  on : Net → List ℕ → List ℕ → Call → CallOn
+
+-- the bays that the calls of `next` in a list name, from record r on: each call gets the record that the last one returned, and a step names none
+abbrev pub named : Bays → List CallOn → List ℕ
+named r [] = []
+named r (on net words ends (step k masks) ∷ ms) = named (answer net words ends r (step k masks) .bays) ms
+named r (on net words ends (next masks want) ∷ ms) = nextBay net r words ends masks want .bay ∷ named (answer net words ends r (next masks want) .bays) ms
+
+-- bay b wants a cycle in a call, if it is one of `next`
+abbrev pub Wants : ℕ → CallOn → Type 0
+Wants b (on net words ends (step k masks)) = Unit
+Wants b (on net words ends (next masks want)) = bit b want ≡ true
+
+-- "From a turn within the four bays, a bay that wants a cycle in every call is served in at most 4 calls, whatever the others want": it is among the first four that are named,
+-- from any such record, over any nets, streams and masks, with any steps outside this call between.
+abbrev pub ServedInFour : Type 0
+ServedInFour =
+    (r : Bays) → r .turn < 4 → (b : ℕ) → b < 4 → (calls : List CallOn) → ((m : CallOn) → List·Memᴰ m calls → Wants b m) → 4 ≤ length (named r calls)
+    → List·Memᴰ b (take 4 (named r calls))
 
 -- ## The word guarantee
 

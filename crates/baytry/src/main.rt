@@ -1,4 +1,5 @@
-// Bays by a run. Without arguments: two bays over one net, of which one stalls; then the allowance, used up by a third one, and steps that are refused.
+// Bays by a run. Without arguments: two bays over one net, of which one stalls; then the allowance, used up by a third one, and steps that are refused; then three bays that take turns,
+// of which one is refused.
 // With a file: the calls that it lists. Its numbers have 4 bytes, most significant first: the bytes of a form, how many words, how many ends; then the form, the words, the ends; then
 // commands of three numbers each, a command and what it is given.
 ghost use mathlib.Core.Path.{_≡_};
@@ -22,12 +23,30 @@ const FRESH: u32 = 256;
 const SET_USED: u32 = 257;
 
 const SET_CHANNELS: u32 = 258;
+// A call of `next`, given the mask of the bays that want a cycle, and how many of the ends are lent to it at most.
+const NEXT: u32 = 259;
 // With a bay's number added: sets its count; given a block, its word or its marks.
 const SET_COUNT: u32 = 260;
 
 const SET_WORD: u32 = 264;
 
 const SET_MARKS: u32 = 268;
+// With a bay's number added: sets its masks for calls of `next`, given offer and ready.
+const SET_MASKS: u32 = 272;
+// Sets the turn.
+const SET_TURN: u32 = 276;
+
+// The masks of the four bays for calls of `next`: each bay's offer, and its ready mask after it.
+struct Panel {
+    masks: [u32; 8],
+}
+
+// What commands change.
+struct Trial {
+    net: Net,
+    bays: Bays,
+    panel: Panel,
+}
 
 fn print(text: &[u8], n: u64) {
     io::write_all(STDOUT_FILENO, text);
@@ -47,8 +66,7 @@ fn end_line() {
 }
 
 // Prints the refusal of a bay's step, and channel and word of each delivery.
-fn show(bay: u8, stepped: BayStepped) {
-    print_byte(b"bay ", bay);
+fn show(stepped: BayStepped) {
     print_byte(b": refusal ", stepped.refusal);
     let mut c: usize = 0;
     while c < 128 {
@@ -79,6 +97,7 @@ fn show_state(k: u64, state: State) {
 
 fn show_record(bays: Bays) {
     print_word(b"used ", bays.used);
+    print_byte(b" turn ", bays.turn);
     end_line();
     let mut k: usize = 0;
     while k < 4 {
@@ -99,8 +118,27 @@ fn stepped(
     ready: u32,
 ) -> Bays {
     let answer = bays::step_bay(net, bays, bay, words, ends, offer, ready);
-    show(bay, answer);
+    print_byte(b"bay ", bay);
+    show(answer);
     answer.bays
+}
+
+// The bay that has the turn, as it is named.
+fn show_named(bay: u8) {
+    if bay == 4 {
+        io::write_all(STDOUT_FILENO, b"next no bay");
+        return;
+    }
+    print_byte(b"next bay ", bay);
+}
+
+// The step of the bay that has the turn, shown.
+fn turned(net: Net, bays: Bays, words: &[u32], ends: &[u32], masks: &[u32; 8], want: u32) -> Bays {
+    let answer = bays::next(net, bays, words, ends, masks, want);
+    let step = answer.step;
+    show_named(answer.bay);
+    show(step);
+    step.bays
 }
 
 // A fresh record, its refusal shown.
@@ -120,6 +158,27 @@ fn with_state(bays: Bays, k: usize, state: State) -> Bays
     Bays {
         states,
         used: bays.used,
+        turn: bays.turn,
+    }
+}
+
+// The record with other cycles used.
+fn with_used(bays: Bays, used: u32) -> Bays {
+    let states = bays.states;
+    Bays {
+        states,
+        used,
+        turn: bays.turn,
+    }
+}
+
+// The record with another turn.
+fn with_turn(bays: Bays, turn: u8) -> Bays {
+    let states = bays.states;
+    Bays {
+        states,
+        used: bays.used,
+        turn,
     }
 }
 
@@ -174,8 +233,56 @@ fn changed(bays: Bays, op: u32, a: u32, b: u32) -> Bays {
     bays
 }
 
+// The net after a command.
+fn altered(net: Net, op: u32, a: u32) -> Net {
+    if op != SET_CHANNELS {
+        return net;
+    }
+    let mut after = net;
+    after.channels = (a % 256) as u8;
+    after
+}
+
+// The masks of the four bays after a command.
+fn masked(panel: Panel, op: u32, a: u32, b: u32) -> Panel {
+    let bay = op % 4;
+    if op - bay != SET_MASKS {
+        return panel;
+    }
+    let at = 2 * bay as usize;
+    let mut masks = panel.masks;
+    masks[at] = a;
+    masks[at + 1] = b;
+    Panel { masks }
+}
+
+// A call of `next` to which at most so many ends are lent.
+fn turned_over(
+    net: Net,
+    bays: Bays,
+    words: &[u32],
+    ends: &[u32],
+    masks: &[u32; 8],
+    want: u32,
+    lent: usize,
+) -> Bays {
+    if lent < ends.len() {
+        return turned(net, bays, words, &ends[..lent], masks, want);
+    }
+    turned(net, bays, words, ends, masks, want)
+}
+
 // The record after a command.
-fn obeyed(net: Net, bays: Bays, words: &[u32], ends: &[u32], op: u32, a: u32, b: u32) -> Bays {
+fn obeyed(
+    net: Net,
+    bays: Bays,
+    words: &[u32],
+    ends: &[u32],
+    panel: Panel,
+    op: u32,
+    a: u32,
+    b: u32,
+) -> Bays {
     if op < FRESH {
         return stepped(net, bays, op as u8, words, ends, a, b);
     }
@@ -183,29 +290,43 @@ fn obeyed(net: Net, bays: Bays, words: &[u32], ends: &[u32], op: u32, a: u32, b:
         return begun(net);
     }
     if op == SET_USED {
-        let states = bays.states;
-        return Bays { states, used: a };
+        return with_used(bays, a);
+    }
+    if op == NEXT {
+        let masks = panel.masks;
+        return turned_over(net, bays, words, ends, &masks, a, b as usize);
+    }
+    if op == SET_TURN {
+        return with_turn(bays, (a % 256) as u8);
     }
     changed(bays, op, a, b)
 }
 
+// What command i leaves.
+fn commanded(before: Trial, words: &[u32], ends: &[u32], commands: &[u8], i: usize) -> Trial
+    requires { ⌜ 12 * i + 12 ≤ length (now commands) ⌝ }
+{
+    let op = number_at(commands, 3 * i);
+    let a = number_at(commands, 3 * i + 1);
+    let b = number_at(commands, 3 * i + 2);
+    let net = altered(before.net, op, a);
+    let panel = masked(before.panel, op, a, b);
+    let bays = obeyed(net, before.bays, words, ends, panel, op, a, b);
+    Trial { net, bays, panel }
+}
+
 // Obeys the commands from a fresh record on, and shows the record in the end.
-fn obey(loaded: Net, words: &[u32], ends: &[u32], commands: &[u8]) {
-    let mut net = loaded;
-    let mut bays = begun(net);
+fn obey(net: Net, words: &[u32], ends: &[u32], commands: &[u8]) {
+    let bays = begun(net);
+    let panel = Panel { masks: [0; 8] };
+    let mut trial = Trial { net, bays, panel };
     let count = commands.len() / 12;
     let mut i: usize = 0;
     while i < count {
-        let op = number_at(commands, 3 * i);
-        let a = number_at(commands, 3 * i + 1);
-        let b = number_at(commands, 3 * i + 2);
-        if op == SET_CHANNELS {
-            net.channels = (a % 256) as u8;
-        }
-        bays = obeyed(net, bays, words, ends, op, a, b);
+        trial = commanded(trial, words, ends, commands, i);
         i += 1;
     }
-    show_record(bays);
+    show_record(trial.bays);
 }
 
 // The first n numbers that bytes hold, then zeros.
@@ -271,7 +392,7 @@ fn run_file(file: &[u8]) {
     run_parts(file, form_len, word_count, end_count);
 }
 
-// ---- Two bays, and the allowance
+// ---- Two bays, the allowance, and three bays in turn
 
 // The ready mask of bay 1: its second sink refuses in cycles 1 to 3.
 fn ready_in(cycle: u64) -> u32 {
@@ -298,11 +419,7 @@ fn two_bays(net: Net, words: &[u32], ends: &[u32]) -> Bays {
 // A record in which bay 2 has used all but one of the cycles that the others left: bay 3 gets the last one, and then every bay is refused.
 fn last_cycle(net: Net, bays: Bays, words: &[u32], ends: &[u32]) {
     let busy = with_count(bays, 2, 1048576 - 13);
-    let states = busy.states;
-    let near = Bays {
-        states,
-        used: 1048575,
-    };
+    let near = with_used(busy, 1048575);
     let full = stepped(net, near, 3, words, ends, 1, 3);
     let refused = stepped(net, full, 0, words, ends, 1, 3);
     show_record(refused);
@@ -314,6 +431,38 @@ fn refused_steps(net: Net, bays: Bays, words: &[u32], ends: &[u32]) {
     let odd = with_count(bays, 2, 1);
     stepped(net, odd, 0, words, ends, 1, 3);
     stepped(net, bays, 0, words, words, 1, 3);
+}
+
+// So many calls of `next` in which bays 0, 1 and 2 want a cycle.
+fn in_turn(
+    net: Net,
+    before: Bays,
+    words: &[u32],
+    ends: &[u32],
+    masks: &[u32; 8],
+    calls: u64,
+) -> Bays {
+    let mut bays = before;
+    let mut i: u64 = 0;
+    while i < calls {
+        bays = turned(net, bays, words, ends, masks, 7);
+        i += 1;
+    }
+    bays
+}
+
+// Three bays in turn; the second sink of bay 1 is never ready. The fifth call gets ends that do not fit. Then calls that name no bay: bits 4 and 5 alone want a cycle, which are no bay's;
+// and a turn beyond the four bays.
+fn three_bays(net: Net, words: &[u32], ends: &[u32]) {
+    let masks = [1u32, 3, 1, 1, 1, 3, 0, 0];
+    let fresh = begun(net);
+    let first = in_turn(net, fresh, words, ends, &masks, 4);
+    let refused = turned(net, first, words, words, &masks, 7);
+    let last = in_turn(net, refused, words, ends, &masks, 4);
+    show_record(last);
+    turned(net, last, words, ends, &masks, 48);
+    let lost = with_turn(last, 7);
+    turned(net, lost, words, ends, &masks, 7);
 }
 
 fn show_trials() {
@@ -341,6 +490,7 @@ fn show_trials() {
     show_record(bays);
     last_cycle(net, bays, &words, &ends);
     refused_steps(net, bays, &words, &ends);
+    three_bays(net, &words, &ends);
 }
 
 fn main() {

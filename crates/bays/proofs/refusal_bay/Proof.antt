@@ -12,44 +12,59 @@ returns : tie.Need-returns
 unfolding refusalBay
 returns c = rw (c .before .pre .0 (c .if1 .taken))
 
-record-ok-requires : tie.Need-record-ok-requires
-record-ok-requires c κs = accepted-where _ _ (c .before .pre) (c .if1 .left)
-
 returns-2 : tie.Need-returns-2
 unfolding refusalBay
 returns-2 c =
     let at-net = c .before .before in
     let accepts = accepted-where _ _ (at-net .before .pre) (at-net .if1 .left) in
-    rw (accepts, sym (c .before .record-ok .ensures) ∙ not-true _ (c .if2 .taken))
+    rw (accepts, le-leb 4 (at-net .before .args .bays .turn) (omega (arith, c .if2 .taken)))
+
+record-ok-requires : tie.Need-record-ok-requires
+record-ok-requires c κs = let at-net = c .before .before in accepted-where _ _ (at-net .before .pre) (at-net .if1 .left)
 
 returns-3 : tie.Need-returns-3
 unfolding refusalBay
 returns-3 c =
-    let at-record = c .before in
-    let at-net = at-record .before .before in
+    let at-turn = c .before .before in
+    let at-net = at-turn .before .before in
     let accepts = accepted-where _ _ (at-net .before .pre) (at-net .if1 .left) in
-    let in-shape = sym (at-record .before .record-ok .ensures) ∙ not-false _ (at-record .if2 .left) in
-    rw (accepts, in-shape, ne-eqb _ _ (c .if3 .taken))
+    let turn = lt-leb 4 (at-net .before .args .bays .turn) (omega (arith, at-turn .if2 .left)) in
+    rw (accepts, turn, sym (c .before .record-ok .ensures) ∙ not-true _ (c .if3 .taken))
 
 returns-4 : tie.Need-returns-4
 unfolding refusalBay
 returns-4 c =
-    let at-own = c .before .before in
-    let at-record = at-own .before in
-    let at-net = at-record .before .before in
+    let at-record = c .before in
+    let at-turn = at-record .before .before in
+    let at-net = at-turn .before .before in
     let accepts = accepted-where _ _ (at-net .before .pre) (at-net .if1 .left) in
-    let in-shape = sym (at-record .before .record-ok .ensures) ∙ not-false _ (at-record .if2 .left) in
-    rw (accepts, in-shape, eq-eqb _ _ (at-own .if3 .left), le-leb 1048576 (at-net .before .args .bays .used) (omega (arith, c .if4 .taken)))
+    let turn = lt-leb 4 (at-net .before .args .bays .turn) (omega (arith, at-turn .if2 .left)) in
+    let in-shape = sym (at-record .before .record-ok .ensures) ∙ not-false _ (at-record .if3 .left) in
+    rw (accepts, turn, in-shape, ne-eqb _ _ (c .if4 .taken))
 
 returns-5 : tie.Need-returns-5
 unfolding refusalBay
 returns-5 c =
     let at-own = c .before .before in
     let at-record = at-own .before in
-    let at-net = at-record .before .before in
+    let at-turn = at-record .before .before in
+    let at-net = at-turn .before .before in
     let accepts = accepted-where _ _ (at-net .before .pre) (at-net .if1 .left) in
-    let in-shape = sym (at-record .before .record-ok .ensures) ∙ not-false _ (at-record .if2 .left) in
-    rw (accepts, in-shape, eq-eqb _ _ (at-own .if3 .left), lt-leb 1048576 (at-net .before .args .bays .used) (omega (arith, c .if4 .left)))
+    let turn = lt-leb 4 (at-net .before .args .bays .turn) (omega (arith, at-turn .if2 .left)) in
+    let in-shape = sym (at-record .before .record-ok .ensures) ∙ not-false _ (at-record .if3 .left) in
+    rw (accepts, turn, in-shape, eq-eqb _ _ (at-own .if4 .left), le-leb 1048576 (at-net .before .args .bays .used) (omega (arith, c .if5 .taken)))
+
+returns-6 : tie.Need-returns-6
+unfolding refusalBay
+returns-6 c =
+    let at-own = c .before .before in
+    let at-record = at-own .before in
+    let at-turn = at-record .before .before in
+    let at-net = at-turn .before .before in
+    let accepts = accepted-where _ _ (at-net .before .pre) (at-net .if1 .left) in
+    let turn = lt-leb 4 (at-net .before .args .bays .turn) (omega (arith, at-turn .if2 .left)) in
+    let in-shape = sym (at-record .before .record-ok .ensures) ∙ not-false _ (at-record .if3 .left) in
+    rw (accepts, turn, in-shape, eq-eqb _ _ (at-own .if4 .left), lt-leb 1048576 (at-net .before .args .bays .used) (omega (arith, c .if5 .left)))
 
 pub refusal-bay-spec : {M : Type 1} → statement M
-refusal-bay-spec = tie.close (tie.spec returns record-ok-requires returns-2 returns-3 returns-4 returns-5)
+refusal-bay-spec = tie.close (tie.spec returns returns-2 record-ok-requires returns-3 returns-4 returns-5 returns-6)

@@ -6,22 +6,16 @@ use Rattle.baytry.proofs.show.Statement.{statement}
 use Rattle.baytry.proofs.show.Tie as tie
 
 abbrev Inv-loop : tie.InvT-loop
-Inv-loop bay stepped c₀ t7 t8 c = c ≤ 128
+Inv-loop stepped c₀ t5 t6 c = c ≤ 128
 
 abbrev μ-loop : tie.MeasureT-loop
-μ-loop bay stepped c₀ t7 t8 c = 128 - c
+μ-loop stepped c₀ t5 t6 c = 128 - c
 
 slice-aggregate-print-byte : tie.Need-slice-aggregate-print-byte Inv-loop μ-loop
 slice-aggregate-print-byte c = search needs
 
 print-byte-requires : tie.Need-print-byte-requires Inv-loop μ-loop
 print-byte-requires c κs = search needs
-
-slice-aggregate-print-byte-2 : tie.Need-slice-aggregate-print-byte-2 Inv-loop μ-loop
-slice-aggregate-print-byte-2 c = search needs
-
-print-byte-requires-2 : tie.Need-print-byte-requires-2 Inv-loop μ-loop
-print-byte-requires-2 c κs = search needs
 
 loop-holds : tie.Need-loop-holds Inv-loop μ-loop
 loop-holds c = search needs
@@ -70,8 +64,6 @@ show-spec =
     μ-loop
     slice-aggregate-print-byte
     print-byte-requires
-    slice-aggregate-print-byte-2
-    print-byte-requires-2
     loop-holds
     element-copy-out-if1
     slice-aggregate-print

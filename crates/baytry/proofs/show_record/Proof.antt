@@ -17,6 +17,12 @@ slice-aggregate-print-word c = search needs
 print-word-requires : tie.Need-print-word-requires Inv-loop μ-loop
 print-word-requires c κs = search needs
 
+slice-aggregate-print-byte : tie.Need-slice-aggregate-print-byte Inv-loop μ-loop
+slice-aggregate-print-byte c = search needs
+
+print-byte-requires : tie.Need-print-byte-requires Inv-loop μ-loop
+print-byte-requires c κs = search needs
+
 end-line-requires : tie.Need-end-line-requires Inv-loop μ-loop
 end-line-requires c κs = search needs
 
@@ -52,6 +58,8 @@ show-record-spec =
     μ-loop
     slice-aggregate-print-word
     print-word-requires
+    slice-aggregate-print-byte
+    print-byte-requires
     end-line-requires
     loop-holds
     mul-state
