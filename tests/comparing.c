@@ -4,7 +4,7 @@
 #include <stdlib.h>
 #include <string.h>
 
-enum { CLASS_ROOM = 32, REFUSAL_ROOM = 256 };
+enum { CLASS_ROOM = 64, REFUSAL_ROOM = 256 };
 
 uint64_t first_seed = 1;
 char call[8192];

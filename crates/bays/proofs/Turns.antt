@@ -1,16 +1,21 @@
--- The bay that `next` chooses, and its three answers.
+-- A mask by its bits; the bay that `next` chooses, and its three answers; what holds of a record after a call.
 -- Assumes nothing.
-use Prim.Native.Nat.{ℕ, zero, suc, _+_, _-_, _*_, _/_, _%_, _^_, _≤_, _<_}
-use mathlib.Core.Path.{_≡_, refl, sym, ap, subst}
+use Prim.Native.Nat.{ℕ, zero, suc, _+_, _-_, _/_, _%_, _^_, _≤_, _<_}
+use mathlib.Core.Path.{_≡_, refl, sym, ap, _∙_, subst}
 use mathlib.Core.Bool.{Bool, true, false, cond}
 use mathlib.Core.Logic.{_≢_, inl, inr}
 use mathlib.Core.List.{List}
 use mathlib.Core.Option.{Option, none, some}
 use native.Mathlib.Decide.{ℕ-discrete}
+use native.Mathlib.Nat.{pow-suc}
 use native.Mathlib.Omega.{arith}
 use borrow.Author.Tests.{eqb-true, eqb-false, eq-eqb, ne-eqb, leb-true, leb-false, le-leb, lt-leb}
+use lib.Arith.{mod-mul}
 use lib.Dec.{eqb, leb}
-use Rattle.blocks.specs.Folds.{lowest, orElse, bit}
+use lib.Pow.{pow-pos}
+use Rattle.blocks.specs.Folds.{one, lowest, orElse, bit, bits}
+use Rattle.blocks.proofs.Bits.{bit-zero, bit-half, bit-bits, bits-same}
+use Rattle.blocks.proofs.Folds.{clash}
 use Rattle.blocks.proofs.Options.{test}
 use Rattle.blocks.proofs.Local.{lowest-below}
 use Rattle.nets.specs.declared.Net.{Net}
@@ -21,6 +26,40 @@ use Rattle.bays.specs.declared.Bays.{Bays}
 use Rattle.bays.specs.declared.BayStepped.{BayStepped}
 use Rattle.bays.specs.declared.Turned.{Turned}
 use Rattle.bays.proofs.Refusals.{Answered, bay-answer}
+
+-- ## A mask by its four bits
+
+-- the bits of x below n make its rest
+low-bits : (n x : ℕ) → bits (λ i. bit i x) n ≡ x % 2 ^ n
+unfolding bits
+low-bits zero x = omega arith
+low-bits (suc n) x =
+    let first : one (bit 0 x) ≡ x % 2 = ap one (bit-zero x) ∙ small (x % 2) (omega arith) in
+    let others : bits (λ i. bit (suc i) x) n ≡ x / 2 % 2 ^ n = bits-same (λ i. bit (suc i) x) (λ i. bit i (x / 2)) n (λ i h. bit-half i x) ∙ low-bits n (x / 2) in
+    rw (pow-suc 2 n) (omega (arith, first, others, mod-mul x {m = 2 ^ n} {c = 2} (pow-pos n) (omega arith)))
+  where
+    small : (y : ℕ) → y < 2 → one (eqb y 1) ≡ y
+    small zero h = refl
+    small (suc zero) h = refl
+    small (suc (suc y)) h = absurd (omega arith)
+
+-- so the first four bits of a number are those of its rest
+bit-low : (k want : ℕ) → k < 4 → bit k (want % 16) ≡ bit k want
+bit-low k want h = ap (bit k) (sym (low-bits 4 want)) ∙ bit-bits (λ i. bit i want) 4 k h
+
+-- a mask with a bay is not empty
+pub mask-of : (b want : ℕ) → b < 4 → bit b want ≡ true → want % 16 ≢ 0
+unfolding bits
+mask-of b want h w z = clash w (sym (bit-low b want h) ∙ ap (bit b) z ∙ bit-bits (λ i. false) 4 b h)
+
+-- and one that is not empty has a bay
+mask-some : (want : ℕ) → want % 16 ≢ 0 → (b : ℕ) × (b < 4) × (bit b want ≡ true)
+unfolding bits
+mask-some want n =
+    test (bit 0 want) (λ q. (0, omega arith, q))
+    (λ q0. test (bit 1 want) (λ q. (1, omega arith, q))
+    (λ q1. test (bit 2 want) (λ q. (2, omega arith, q))
+    (λ q2. test (bit 3 want) (λ q. (3, omega arith, q)) (λ q3. absurd (n (sym (low-bits 4 want) ∙ rw (q0, q1, q2, q3)))))))
 
 -- ## The bay chosen
 
@@ -43,33 +82,7 @@ pub nearer : (turn want d : ℕ) → d < 4 → wantsAt turn want d ≡ true → 
 unfolding firstWanting
 nearer turn want d h e = let x = lowest-upto (wantsAt turn want) 4 d h e in (x .0, x .1, ap (bayNo turn) (x .2))
 
--- a mask that is not empty has a bay
-mask-some : (want : ℕ) → want % 16 ≢ 0 → (b : ℕ) × (b < 4) × (bit b want ≡ true)
-unfolding bit
-mask-some want n =
-    test (bit 0 want) (λ q. (0, omega arith, q))
-    (λ q0. test (bit 1 want) (λ q. (1, omega arith, q))
-    (λ q1. test (bit 2 want) (λ q. (2, omega arith, q))
-    (λ q2. test (bit 3 want) (λ q. (3, omega arith, q)) (λ q3. absurd (n (none-set q0 q1 q2 q3))))))
-  where
-    none-set : bit 0 want ≡ false → bit 1 want ≡ false → bit 2 want ≡ false → bit 3 want ≡ false → want % 16 ≡ 0
-    none-set a b c d =
-        let x : want ≡ want / 2 * 2 = omega (arith, eqb-false (want / 2 ^ 0 % 2) 1 a) in
-        let y : want / 2 ≡ want / 4 * 2 = omega (arith, eqb-false (want / 2 ^ 1 % 2) 1 b) in
-        let z : want / 4 ≡ want / 8 * 2 = omega (arith, eqb-false (want / 2 ^ 2 % 2) 1 c) in
-        let u : want / 8 ≡ want / 16 * 2 = omega (arith, eqb-false (want / 2 ^ 3 % 2) 1 d) in
-        omega (arith, x, y, z, u)
-
--- and one with a bay is not empty
-pub mask-of : (b want : ℕ) → b < 4 → bit b want ≡ true → want % 16 ≢ 0
-unfolding bit
-mask-of zero want h w z = omega (arith, eqb-true (want / 2 ^ 0 % 2) 1 w)
-mask-of (suc zero) want h w z = omega (arith, eqb-true (want / 2 ^ 1 % 2) 1 w)
-mask-of (suc (suc zero)) want h w z = omega (arith, eqb-true (want / 2 ^ 2 % 2) 1 w)
-mask-of (suc (suc (suc zero))) want h w z = omega (arith, eqb-true (want / 2 ^ 3 % 2) 1 w)
-mask-of (suc (suc (suc (suc b)))) want h w z = omega arith
-
--- so the bay chosen is one of the four
+-- of a mask that is not empty the bay chosen is one of the four
 pub wanting-below : (turn want : ℕ) → turn < 4 → want % 16 ≢ 0 → firstWanting turn want < 4
 wanting-below turn want h n =
     let x = mask-some want n in
@@ -78,17 +91,6 @@ wanting-below turn want h n =
     omega (arith, nearer turn want d (omega arith) (rw there (x .2)) .2)
 
 -- bits beyond the four are not looked at
-half-low : (k want : ℕ) → k < 4 → want % 16 / 2 ^ k % 2 ≡ want / 2 ^ k % 2
-half-low zero want h = omega arith
-half-low (suc zero) want h = omega arith
-half-low (suc (suc zero)) want h = omega arith
-half-low (suc (suc (suc zero))) want h = omega arith
-half-low (suc (suc (suc (suc k)))) want h = absurd (omega arith)
-
-bit-low : (k want : ℕ) → k < 4 → bit k (want % 16) ≡ bit k want
-unfolding bit
-bit-low k want h = ap (λ (x : ℕ). eqb x 1) (half-low k want h)
-
 pub wanting-low : (turn want : ℕ) → firstWanting turn want ≡ firstWanting turn (want % 16)
 unfolding firstWanting
 wanting-low turn want = ap (λ (f : ℕ → Bool). bayNo turn (lowest f 4)) (λ i j. sym (bit-low (asked turn j) want (omega arith)) i)
