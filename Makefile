@@ -1,5 +1,7 @@
 # make run FORM=examples/add5.form: runs a stored net for 6 cycles and prints each delivery.
 # make placements FORM=examples/circle.form: lists where buffers may go in a stored net of at most 6 channels.
+# make record FORM=examples/fork.form STREAMS=10,20,30,40 CYCLES=6 TRACE=build/ours.trace: runs a stored net and writes its recording; READY=3,1,3 has the ready masks of the first cycles.
+# make diff FIRST=build/ours.trace SECOND=examples/card.trace: lays two recordings beside each other, each channel or CHANNEL=1.
 # make bays: steps two bays of one net, of which one stalls, uses up the allowance of cycles, and lets three bays take turns.
 # make lib: the proved library and its header, in build/. make bench: its speed beside plain C.
 # make soak NETS=1000000 SEED=2: the library against the model over so many random nets, with a line of progress every ten seconds.
@@ -10,6 +12,8 @@ NETRUN = target/bin/netrun
 NETPLACE = target/bin/netplace
 PLACETRY = target/bin/placetry
 BAYTRY = target/bin/baytry
+NETDIFF = target/bin/netdiff
+DIFFTRY = target/bin/difftry
 SOURCES := crates.txt $(shell find crates -name '*.rt' -o -name '*.antt')
 
 NETS = 1000000
@@ -18,7 +22,7 @@ SEED = 2
 CORES := $(shell nproc 2> /dev/null || echo 2)
 export RT_JOBS ?= $(shell echo $$((2 * $(CORES))))
 
-.PHONY: test host lib run placements bays soak bench clean
+.PHONY: test host lib run placements record diff shown bays soak bench clean
 # Two runs of rt at once would share target/.
 .NOTPARALLEL:
 
@@ -32,9 +36,9 @@ test:
 	@tools/dearest
 	@tail -n 1 build/ci.log
 
-# The pages; the library against a model in C, broken stand-ins that the comparison has to catch, the README's program, netrun on the examples; the placements and the
-# bays likewise; what the library needs of memory.
-host: $(LIB) $(NETRUN) $(NETPLACE) $(PLACETRY) $(BAYTRY)
+# The pages; the library against a model in C, broken stand-ins that the comparison has to catch, the README's program, netrun on the examples; the placements, the
+# bays and the recordings laid beside each other likewise; what the library needs of memory.
+host: $(LIB) $(NETRUN) $(NETPLACE) $(PLACETRY) $(BAYTRY) $(NETDIFF) $(DIFFTRY)
 	tools/timed "the pages" $(MAKE) --no-print-directory -C tests pages
 	tools/timed "library and model" $(MAKE) --no-print-directory -C tests check LIB=../$(LIB)
 	tools/timed "broken stand-ins" $(MAKE) --no-print-directory -j$(CORES) -C tests mutants watchdog
@@ -42,6 +46,9 @@ host: $(LIB) $(NETRUN) $(NETPLACE) $(PLACETRY) $(BAYTRY)
 	tools/timed "broken stand-ins of placements" $(MAKE) --no-print-directory -j$(CORES) -C tests place-mutants
 	tools/timed "bays and model" $(MAKE) --no-print-directory -C tests bays BAYTRY=../$(BAYTRY)
 	tools/timed "broken stand-ins of bays" $(MAKE) --no-print-directory -j$(CORES) -C tests bay-mutants
+	tools/timed "recordings and model" $(MAKE) --no-print-directory -C tests diffs NETDIFF=../$(NETDIFF) DIFFTRY=../$(DIFFTRY)
+	tools/timed "broken stand-ins of recordings" $(MAKE) --no-print-directory -j$(CORES) -C tests diff-mutants
+	tools/timed "the README's recordings" $(MAKE) --no-print-directory shown
 	tools/timed "the README's program" $(MAKE) --no-print-directory -C tests readme LIB=../$(LIB) HEADER=../build/whemdrosk.h
 	tools/timed "netrun on the examples" $(MAKE) --no-print-directory -C tests netrun NETRUN=../$(NETRUN)
 	tools/timed "what the library needs" $(MAKE) --no-print-directory -C tests needs LIB=../$(LIB)
@@ -63,6 +70,28 @@ run placements:
 	@$(MAKE) --no-print-directory -s $(PROGRAM)
 	@$(PROGRAM) "$(FORM)"
 
+# The recording of a run, as tests/example.c writes it.
+record: $(LIB)
+	@test -n "$(FORM)" -a -n "$(CYCLES)" -a -n "$(TRACE)" || { echo "usage: make $@ FORM=examples/fork.form STREAMS=10,20,30,40 CYCLES=6 TRACE=build/ours.trace [READY=3,1,3]" >&2; exit 2; }
+	@$(MAKE) --no-print-directory -s -C tests build/example LIB=../$(LIB)
+	@tests/build/example -o "$(TRACE)" $(if $(READY),-r $(READY)) "$(FORM)" $(CYCLES) $(STREAMS)
+
+diff:
+	@test -n "$(FIRST)" -a -n "$(SECOND)" || { echo "usage: make $@ FIRST=build/ours.trace SECOND=card.trace [CHANNEL=1]" >&2; exit 2; }
+	@for f in "$(FIRST)" "$(SECOND)"; do test -r "$$f" -a ! -d "$$f" || { echo "make $@: cannot read $$f" >&2; exit 2; }; done
+	@$(MAKE) --no-print-directory -s $(NETDIFF)
+	@$(NETDIFF) "$(FIRST)" "$(SECOND)" $(CHANNEL)
+
+# The README's commands for recordings, as they stand there, print the lines that stand there.
+shown:
+	@mkdir -p build
+	@sed -n '/^make \(record\|diff\) [A-Z]*=\(examples\|build\)/p' README.md > build/readme.sh
+	@test $$(wc -l < build/readme.sh) -eq 3
+	@sed -n '/^channel [0-9]*: /p' README.md > build/readme.lines
+	@test $$(wc -l < build/readme.lines) -eq 4
+	@$(SHELL) -e build/readme.sh | sed -n '/^channel /p' | diff build/readme.lines -
+	@echo "the README's recordings: as it says"
+
 bays:
 	@$(MAKE) --no-print-directory -s $(BAYTRY)
 	@$(BAYTRY)
@@ -74,9 +103,10 @@ target/bin/%: $(SOURCES)
 soak: $(LIB)
 	$(MAKE) --no-print-directory -C tests soak LIB=../$(LIB) NETS=$(NETS) SEED=$(SEED)
 
-bench: $(LIB) $(NETPLACE)
+bench: $(LIB) $(NETPLACE) $(NETDIFF)
 	$(MAKE) --no-print-directory -C bench run LIB=../$(LIB)
 	$(MAKE) --no-print-directory -C bench list NETPLACE=../$(NETPLACE)
+	$(MAKE) --no-print-directory -C bench diff NETDIFF=../$(NETDIFF)
 
 clean:
 	rm -rf target build

@@ -1,11 +1,12 @@
 #!/usr/bin/env python3
-"""Writes NAME.form for each NAME.net beside this script; with --check it only says whether they are as they would be written.
+"""Writes NAME.form for each NAME.net and NAME.trace for each NAME.records beside this script; with --check it only says whether they are as they would be written.
 
 A .net file has a block on each line: its kind, its inputs, an arrow and its outputs. Ports are names of channels, numbered as they first appear.
   source -> a         sink a             fork a -> b c        merge a b -> data report
   add a b -> c        add a 5 -> c       (also sub, equal, less; a number is the operator's constant)
   mux select a b -> c                    demux select a -> b c
   data a -> b         data 1 a -> b      (a number is the first word of a full buffer)        control a -> b
+A .records file has a delivery on each line: cycle, channel and word, as netrun prints them.
 What follows # is a comment.
 """
 import pathlib
@@ -65,14 +66,33 @@ def stored_form(blocks, channels):
     return bytes(int(bits[at:at + 8], 2) for at in range(0, len(bits), 8))
 
 
+def stored_trace(text, where):
+    """The bytes of a trace: 8 for each delivery, most significant first, of cycle 25 bits, channel 7, word 32."""
+    records = []
+    for number, line in enumerate(text.splitlines(), 1):
+        fields = [int(field) for field in line.split("#")[0].split()]
+        if fields and (len(fields) != 3 or fields[0] >> 25 or fields[1] >> 7 or fields[2] >> 32):
+            sys.exit(f"{where}, line {number}: no delivery")
+        if fields:
+            records.append((fields[0] << 39 | fields[1] << 32 | fields[2]).to_bytes(8, "big"))
+    return b"".join(records)
+
+
+def written():
+    """Each file that this script writes, with its bytes."""
+    here = pathlib.Path(__file__).parent
+    for path in sorted(here.glob("*.net")):
+        yield path.with_suffix(".form"), stored_form(*read_net(path.read_text(), path.name))
+    for path in sorted(here.glob("*.records")):
+        yield path.with_suffix(".trace"), stored_trace(path.read_text(), path.name)
+
+
 def main():
     stale = []
-    for path in sorted(pathlib.Path(__file__).parent.glob("*.net")):
-        form = stored_form(*read_net(path.read_text(), path.name))
-        target = path.with_suffix(".form")
+    for target, content in written():
         if "--check" not in sys.argv:
-            target.write_bytes(form)
-        elif not target.exists() or target.read_bytes() != form:
+            target.write_bytes(content)
+        elif not target.exists() or target.read_bytes() != content:
             stale.append(target.name)
     if stale:
         sys.exit("not as written: " + ", ".join(stale))

@@ -4,10 +4,11 @@
 #include <stdlib.h>
 #include <string.h>
 
-enum { CLASS_ROOM = 64, REFUSAL_ROOM = 256 };
+enum { CLASS_ROOM = 64, REFUSAL_ROOM = 256, MOST_SHOWN = 4096, ERROR_ROOM = 16384, MOST_ERROR_LINES = 2 };
 
 uint64_t first_seed = 1;
 char call[8192];
+const char *wanted_errors = "";
 
 struct random random_for(unsigned class, unsigned i)
 {
@@ -64,8 +65,8 @@ void print_verdict(void)
 void fail_trial(const struct trial *t, const char *why)
 {
     printf("DIFFERENT: %s: %s\nclass: %s\nseed: %llu\n%s (%zu bytes):", call, why, t->class, (unsigned long long)t->seed, t->sort, t->len);
-    for (size_t i = 0; i < t->len; i++) printf(" %02x", t->bytes[i]);
-    printf("\n%lu passed, 1 failed\n", all_lines);
+    for (size_t i = 0; i < t->len && i < MOST_SHOWN; i++) printf(" %02x", t->bytes[i]);
+    printf("%s\n%lu passed, 1 failed\n", t->len > MOST_SHOWN ? " .." : "", all_lines);
     exit(1);
 }
 
@@ -91,8 +92,8 @@ static void fail_line(const struct trial *t, unsigned long number, const char *w
     fail_trial(t, why);
 }
 
-// Every line and what is behind the last; the line that differs is said.
-static void compare_lines(const struct trial *t, const char *want, const struct printed *printed, line_note *note)
+// Every line and what is behind the last; the line that differs is said. Answers how many lines there are.
+static unsigned long compare_lines(const struct trial *t, const char *want, const struct printed *printed, line_note *note)
 {
     const char *got = printed->text;
     unsigned long lines = 0;
@@ -106,7 +107,39 @@ static void compare_lines(const struct trial *t, const char *want, const struct 
     }
     if (got != printed->text + printed->len) fail_trial(t, "a zero byte is printed");
     if (printed->signal) fail_trial(t, "the program is ended by a signal");
-    count_run(t->class, lines);
+    return lines;
+}
+
+// What went to standard error.
+static const char *read_errors(void)
+{
+    static char text[ERROR_ROOM];
+    FILE *file = fopen(errors_file, "rb");
+    text[file ? fread(text, 1, sizeof text - 1, file) : 0] = 0;
+    if (file) fclose(file);
+    return text;
+}
+
+// Whether a line of a short text begins as it should, or there is no line and should be none.
+static int errors_are_right(const char *got)
+{
+    unsigned lines = 0, found = 0;
+    for (; *got; got += line_length(got)) {
+        lines++;
+        found += strncmp(got, wanted_errors, strlen(wanted_errors)) == 0;
+    }
+    return *wanted_errors ? found > 0 && lines <= MOST_ERROR_LINES : lines == 0;
+}
+
+// Answers how many lines of standard error were looked for.
+static unsigned long compare_errors(const struct trial *t)
+{
+    static char why[4096];
+    if (!errors_file) return 0;
+    const char *got = read_errors(), *want = *wanted_errors ? wanted_errors : "nothing", *shown = *got ? got : "nothing";
+    snprintf(why, sizeof why, "standard error: expected %.*s, got %.*s", (int)strcspn(want, "\n"), want, (int)strcspn(shown, "\n"), shown);
+    if (!errors_are_right(got)) fail_trial(t, why);
+    return *wanted_errors != 0;
 }
 
 // The model's text, as it is made.
@@ -124,7 +157,8 @@ void finish_trial(const struct trial *t, FILE *out, char *const *arguments, cons
     static struct printed printed;
     fclose(out);
     run_program(arguments, input, &printed);
-    compare_lines(t, model.bytes, &printed, note);
+    unsigned long lines = compare_lines(t, model.bytes, &printed, note);
+    count_run(t->class, lines + compare_errors(t));
     free(model.bytes);
 }
 

@@ -30,6 +30,10 @@ FILE *begin_model(void);
 typedef void line_note(const char *line, size_t len);
 void finish_trial(const struct trial *t, FILE *model, char *const *arguments, const char *input, line_note *note);
 
+// Standard error is looked at where it goes to a file (errors_file, programs.h): it is to be empty where this text is, and else to be one or two lines of
+// which one begins with the text.
+extern const char *wanted_errors;
+
 // Reports a difference, or that the cases never showed what they had to show; ends the comparison.
 void fail_trial(const struct trial *t, const char *why);
 void require(int met, const char *what);

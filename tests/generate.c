@@ -318,6 +318,11 @@ uint32_t patterns_of_channels(void)
     return 1 << 0 | 1 << 3 | 1 << 8 | 1 << 9 | 1 << 19;
 }
 
+uint32_t patterns_without_merges(void)
+{
+    return ~(1u << 7 | 1u << 8 | 1u << 10 | 1u << 13);
+}
+
 // ---- Loops
 
 struct search { int data; unsigned depth, trail[BLOCK_ROOM], colour[BLOCK_ROOM]; };

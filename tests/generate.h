@@ -40,10 +40,11 @@ unsigned count_kind(const struct draft *d, unsigned kind);
 
 // Draws a net by a wish; one that fits the limits.
 void draw(struct random *r, const struct wish *wish, struct draft *d);
-// Patterns that add many sources, many sinks, or many channels for their blocks.
+// Patterns that add many sources, many sinks, or many channels for their blocks; patterns that add no merge.
 uint32_t patterns_of_sources(void);
 uint32_t patterns_of_sinks(void);
 uint32_t patterns_of_channels(void);
+uint32_t patterns_without_merges(void);
 
 // Adds a block with its ports as given.
 void add_drawn(struct draft *d, unsigned kind, unsigned m, unsigned value, const unsigned *ports);

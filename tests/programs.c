@@ -8,18 +8,22 @@
 
 enum { SECONDS = 60, PIECE = 65536, MOST = 64000000 };
 
+const char *errors_file;
+
 static void give_up(const char *what)
 {
     perror(what);
     exit(2);
 }
 
-// In the new process: standard input and output are set, then the program takes its place. The alarm stays set for it.
+// In the new process: standard input, output and error are set, then the program takes its place. The alarm stays set for it.
 static void become(char *const *arguments, const char *input, int output)
 {
     int from = open(input ? input : "/dev/null", O_RDONLY);
-    if (from >= 0 && dup2(from, STDIN_FILENO) >= 0 && dup2(output, STDOUT_FILENO) >= 0) {
+    int errors = errors_file ? open(errors_file, O_WRONLY | O_CREAT | O_TRUNC, 0666) : dup(STDERR_FILENO);
+    if (from >= 0 && errors >= 0 && dup2(from, STDIN_FILENO) >= 0 && dup2(output, STDOUT_FILENO) >= 0 && dup2(errors, STDERR_FILENO) >= 0) {
         close(from);
+        close(errors);
         close(output);
         alarm(SECONDS);
         execv(arguments[0], arguments);
@@ -58,6 +62,9 @@ void run_program(char *const *arguments, const char *input, struct printed *prin
     gather(ends[0], printed);
     close(ends[0]);
     if (waitpid(child, &status, 0) != child) give_up(arguments[0]);
-    if (WIFEXITED(status) && WEXITSTATUS(status) == 127) exit(2);
+    if (WIFEXITED(status) && WEXITSTATUS(status) == 127) {
+        fprintf(stderr, "%s cannot be run\n", arguments[0]);
+        exit(2);
+    }
     printed->signal = WIFSIGNALED(status) ? WTERMSIG(status) : 0;
 }

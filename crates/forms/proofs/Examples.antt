@@ -49,7 +49,7 @@ line-written = refl
 
 -- ## The round trips, over this net and this form
 
-all-same : {A : Type 0} (P : A → Type 0) (a : A) → P a → (n : ℕ) → All P (replicate n a)
+pub all-same : {A : Type 0} (P : A → Type 0) (a : A) → P a → (n : ℕ) → All P (replicate n a)
 all-same P a p zero = tt
 all-same P a p (suc n) = (p, all-same P a p n)
 

@@ -1,4 +1,4 @@
-// A stored net for a program: the bytes of the file that the first argument names, or of standard input where there is none.
+// Input of programs: a stored net, which is the bytes of the file that the first argument names, or of standard input where there is none; and the next bytes of an open file.
 ghost use Rattle.io.specs.Counts.{Counts};
 use libc::STDERR_FILENO;
 use libc::STDIN_FILENO;
@@ -10,14 +10,14 @@ pub struct Input {
 }
 
 // Says on standard error why the input cannot be read.
-fn complain(program: &[u8], name: &[u8]) {
+pub fn complain(program: &[u8], name: &[u8]) {
     io::write_all(STDERR_FILENO, program);
     io::write_all(STDERR_FILENO, b": cannot read ");
     os::fail(name);
 }
 
 // Reads until the buffer is full, the input ends or a read fails.
-fn read_all(fd: i32, buf: &mut [u8]) -> Input
+pub fn read_all(fd: i32, buf: &mut [u8]) -> Input
     ensures { λ r. ⌜ Counts (r .bytes) (now (buf .exit)) ⌝ }
 {
     let mut done: usize = 0;

@@ -1,7 +1,9 @@
 -- A trace read back (document 01, "Runs and the trace"): each 8 bytes, most significant first, are a 64-bit record of cycle count 25 bits, channel 7, word 32.
 -- Assumes nothing.
 use Prim.Native.Nat.{ℕ, _+_, _*_, _/_, _%_, _^_}
+use mathlib.Core.Bool.{Bool}
 use mathlib.Core.List.{List, [], _∷_}
+use lib.Dec.{eqb}
 use Rattle.trace.specs.Numbers.{numbersOf}
 
 -- the 64-bit numbers that 32-bit numbers make, two to one, upper half first; a last one alone makes none
@@ -23,3 +25,7 @@ channelOf r = r / 2 ^ 32 % 128
 
 abbrev pub wordOf : ℕ → ℕ
 wordOf r = r % 2 ^ 32
+
+-- a record of channel c
+abbrev pub on : ℕ → ℕ → Bool
+on c r = eqb (channelOf r) c

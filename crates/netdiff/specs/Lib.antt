@@ -1,0 +1,2 @@
+-- What the functions of netdiff ask of each other.
+pub mod Waits

@@ -1,0 +1,2 @@
+-- What is promised of traces that runs wrote.
+pub mod Recordings
