@@ -76,11 +76,12 @@ record: $(LIB)
 	@$(MAKE) --no-print-directory -s -C tests build/example LIB=../$(LIB)
 	@tests/build/example -o "$(TRACE)" $(if $(READY),-r $(READY)) "$(FORM)" $(CYCLES) $(STREAMS)
 
+# netdiff prints nothing where it complains, and then this fails.
 diff:
 	@test -n "$(FIRST)" -a -n "$(SECOND)" || { echo "usage: make $@ FIRST=build/ours.trace SECOND=card.trace [CHANNEL=1]" >&2; exit 2; }
 	@for f in "$(FIRST)" "$(SECOND)"; do test -r "$$f" -a ! -d "$$f" || { echo "make $@: cannot read $$f" >&2; exit 2; }; done
 	@$(MAKE) --no-print-directory -s $(NETDIFF)
-	@$(NETDIFF) "$(FIRST)" "$(SECOND)" $(CHANNEL)
+	@$(NETDIFF) "$(FIRST)" "$(SECOND)" $(CHANNEL) | grep --line-buffered .
 
 # The README's commands for recordings, as they stand there, print the lines that stand there.
 shown:
@@ -90,6 +91,8 @@ shown:
 	@sed -n '/^channel [0-9]*: /p' README.md > build/readme.lines
 	@test $$(wc -l < build/readme.lines) -eq 4
 	@$(SHELL) -e build/readme.sh | sed -n '/^channel /p' | diff build/readme.lines -
+	@! $(MAKE) --no-print-directory -s diff FIRST=build/ours.trace SECOND=examples/card.trace CHANNEL=128 2> build/readme.err
+	@grep -q '^netdiff: 128 is no channel' build/readme.err
 	@echo "the README's recordings: as it says"
 
 bays:

@@ -440,11 +440,12 @@ static void forgive_files(struct question *q)
 static void read_trace(struct trace *t)
 {
     FILE *file = fopen(t->name, "rb");
+    int again = file && fseek(file, 0, SEEK_SET) == 0;
     size_t room = 1 << 20;
     uint8_t *bytes = malloc(room);
     t->bytes = bytes;
-    t->len = file && bytes ? fread(bytes, 1, room, file) : 0;
-    t->can_be_read = file && !ferror(file);
+    t->len = again && bytes ? fread(bytes, 1, room, file) : 0;
+    t->can_be_read = again && !ferror(file);
     if (file) fclose(file);
 }
 

@@ -512,21 +512,41 @@ fn channel_asked() -> u8 {
     channel
 }
 
+// A pipe would be found empty when it is read for the second time, so it is not read at all.
+fn say_once_only(path: &[u8]) {
+    say(b"netdiff: cannot read ");
+    say(path);
+    say(b": it can be read only once, as a pipe can; put it into a file first\n");
+}
+
+// Whether an open file can be read, and again from its beginning; where it cannot, says so with its name.
+fn is_readable(fd: i32, path: &[u8]) -> bool {
+    if libc::lseek(fd, 0, libc::SEEK_SET) < 0 {
+        say_once_only(path);
+        return false;
+    }
+    let mut byte = [0u8; 1];
+    if libc::read(fd, &mut byte) < 0 {
+        input::complain(b"netdiff", path);
+        return false;
+    }
+    true
+}
+
 // Opens the file that argument i names, and tries to read it; a descriptor below 0 says that it cannot be read.
 fn opened(i: usize) -> i32 {
     let mut path = io::buffer();
     let n = os::arg(i, &mut path);
+    if os::errno() != 0 {
+        input::complain(b"netdiff", b"the file that an argument names");
+        return -1;
+    }
     let fd = os::open_read(&path[..n]);
     if fd < 0 {
         input::complain(b"netdiff", &path[..n]);
         return fd;
     }
-    let mut byte = [0u8; 1];
-    if libc::read(fd, &mut byte) < 0 {
-        input::complain(b"netdiff", &path[..n]);
-        return -1;
-    }
-    fd
+    if is_readable(fd, &path[..n]) { fd } else { -1 }
 }
 
 fn unsigned(n: i64) -> u64 {
