@@ -2,7 +2,7 @@
 # make placements FORM=examples/circle.form: lists where buffers may go in a stored net of at most 6 channels.
 # make record FORM=examples/fork.form STREAMS=10,20,30,40 CYCLES=6 TRACE=build/ours.trace: runs a stored net and writes its recording; READY=3,1,3 has the ready masks of the first cycles.
 # make diff FIRST=build/ours.trace SECOND=examples/card.trace: lays two recordings beside each other, each channel or CHANNEL=1.
-# make bays: steps two bays of one net, of which one stalls, uses up the allowance of cycles, and lets three bays take turns.
+# make bays: steps two bays of one net, of which one stalls, shows bays that are refused beside others, and lets three bays take turns.
 # make lib: the proved library and its header, in build/. make bench: its speed beside plain C.
 # make soak NETS=1000000 SEED=2: the library against the model over so many random nets, with a line of progress every ten seconds.
 # make test: every crate proved from nothing, the must-fail edits and the programs, then the host tests on the library. Its last line is 'N passed, 0 failed'.

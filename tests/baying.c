@@ -1,16 +1,17 @@
-// Compares the program baytry with the model: four bays stepped in many orders and in turn, records that are spoilt, the allowance, faults together, refused
-// forms.
+// Compares the program baytry with the model: four bays stepped in many orders and in turn, bays that are spoilt, the allowance of each, faults together,
+// refused forms; and a bay among others with the same bay alone.
 // usage: baying BAYTRY CASE [SEED [NETS [random]]] (cases are written to the file CASE; one for which an answer differs stays there; random: without the cases
 // by hand)
 #define _POSIX_C_SOURCE 200809L
+#include "bayalone.h"
 #include "bayscenes.h"
 #include "bayturns.h"
 #include "comparing.h"
 #include <stdlib.h>
 #include <string.h>
 
-// How many nets there are for each class, and how many show all that has to be met.
-enum { NETS = 100, FEWEST_NETS = 12 };
+// How many nets there are for each class, and how many show all that has to be met; in every so many cases one bay is tried alone.
+enum { NETS = 100, FEWEST_NETS = 12, ALONE_EVERY = 4 };
 
 static char *baytry, *case_file;
 
@@ -57,6 +58,7 @@ static void note_step(unsigned bay, unsigned refusal, unsigned long delivered)
 static void note_line(const char *line, size_t len)
 {
     unsigned bay, refusal;
+    keep_line(line, len);
     if (sscanf(line, "bay %u: refusal %u", &bay, &refusal) == 2) note_step(bay, refusal, equal_signs(line, len));
     else if (sscanf(line, "next bay %u: refusal %u", &bay, &refusal) == 2) {
         note_call(bay, refusal);
@@ -76,9 +78,25 @@ static void compare_case(const struct scene *s)
     print_case(out, s->bytes, s->len);
     on_trial = s;
     begin_waiting(s);
+    begin_lines();
     write_trial(&trial, case_file);
     snprintf(call, sizeof call, "baytry %s", case_file);
     finish_trial(&trial, out, (char *[]){baytry, case_file, NULL}, NULL, note_line);
+}
+
+// A bay's lines in the case that was compared last, and in the case that leaves this bay alone.
+static unsigned long alone_steps;
+
+static void compare_alone(const struct scene *s, unsigned bay)
+{
+    static struct scene alone;
+    struct trial trial = trial_of(s);
+    char *among = strdup(lines_of(bay));
+    leave_alone(s, bay, &alone);
+    compare_case(&alone);
+    if (strcmp(among, lines_of(bay)) != 0) fail_trial(&trial, "a bay's lines depend on other bays");
+    for (const char *at = among; (at = strstr(at, ": refusal 0")); at++) alone_steps++;
+    free(among);
 }
 
 // ---- Good steps
@@ -195,23 +213,21 @@ static void with_counts_set(struct scene *s, struct random *r, unsigned i)
         if (chance(r, 4)) step_each(s);
         else step_some(s, r, 1 + below(r, 3));
         if (chance(r, 2)) add(s, FRESH_RECORD, 0, 0);
-        else set_counts(s, none, 0);
+        else set_counts(s, none);
     }
 }
 
 // ---- The allowance
 
-// Some cycles are left, and more steps follow than that: of one bay, or of any; at times a number of no bay is among them.
+// Some cycles are left to some bays, and more steps follow than that: of one bay, or of any; at times a number of no bay is among them.
 static void near_the_allowance(struct scene *s, struct random *r, unsigned i)
 {
-    uint32_t counts[BAYS];
     while (commands_left(s) > 0) {
         unsigned left = below(r, i % 2 ? 3 : 8), bay = below(r, BAYS), alone = chance(r, 3);
         if (!chance(r, 3)) add(s, FRESH_RECORD, 0, 0);
         step_some(s, r, below(r, 4));
-        split(r, ALLOWANCE - left, counts);
-        set_counts(s, counts, ALLOWANCE - left);
-        for (unsigned n = 0; n < left + 3; n++) {
+        leave_cycles(s, r, left);
+        for (unsigned n = 0; n < (alone ? left + 3 : 2 * left + 8); n++) {
             step(s, alone ? bay : below(r, BAYS));
             if (chance(r, 12)) step(s, BAYS + below(r, 252));
         }
@@ -220,19 +236,19 @@ static void near_the_allowance(struct scene *s, struct random *r, unsigned i)
 
 // ---- Several faults at once
 
-enum { WITH_NO_BAY = 1, WITH_BAD_NET = 2, WITH_BAD_RECORD = 4, WITH_ALLOWANCE_USED = 8, SETS_OF_FAULTS = 16 };
+enum { WITH_NO_BAY = 1, WITH_BAD_NET = 2, WITH_BAD_STATE = 4, WITH_ALLOWANCE_USED = 8, SETS_OF_FAULTS = 16 };
 
-// Two steps with a set of faults, of bays whose own state may be the spoilt one or not.
+// Steps with a set of faults, of the bay that is spoilt and of another.
 static void add_faults(struct scene *s, struct random *r, unsigned faults)
 {
-    uint32_t counts[BAYS];
+    unsigned bay = below(r, BAYS), other = (bay + 1 + below(r, BAYS - 1)) % BAYS, none = BAYS + below(r, chance(r, 2) ? 4 : 252);
     add(s, FRESH_RECORD, 0, 0);
     step(s, below(r, BAYS));
-    split(r, ALLOWANCE, counts);
-    if (faults & WITH_ALLOWANCE_USED) set_counts(s, counts, ALLOWANCE);
-    if (faults & WITH_BAD_RECORD) spoil_record(s, r);
+    if (faults & WITH_ALLOWANCE_USED) leave_cycles(s, r, 0);
+    if (faults & WITH_BAD_STATE) spoil_bay(s, r, bay);
     if (faults & WITH_BAD_NET) add(s, SET_CHANNELS, other_channels(r, &s->draft), 0);
-    for (unsigned n = 0; n < 2; n++) step(s, faults & WITH_NO_BAY ? BAYS + below(r, chance(r, 2) ? 4 : 252) : below(r, BAYS));
+    step(s, faults & WITH_NO_BAY ? none : bay);
+    step(s, faults & WITH_NO_BAY ? none : other);
     add(s, SET_CHANNELS, s->draft.channels, 0);
 }
 
@@ -337,61 +353,62 @@ static const struct known by_hand[] = {
     // Two bays, each with its own words; no fifth bay.
     {netrun, 4, 3, 7, {STEP(0), STEP(0), STEP(2), STEP(0), {1, 0, ~0u}, STEP(4), STEP(2)},
      "load 0\nfresh 0\nbay 0: refusal 0 0=1\nbay 0: refusal 0 0=2 1=1 2=6\nbay 2: refusal 0 0=1\nbay 0: refusal 0 0=3 1=2 2=7\nbay 1: refusal 0\n"
-     "bay 4: refusal 21\nbay 2: refusal 0 0=2 1=1 2=6\nused 6 turn 0\n"
+     "bay 4: refusal 21\nbay 2: refusal 0 0=2 1=1 2=6\nturn 0\n"
      "state 0 count 3 0=3/0 1=3/1\nstate 1 count 1\nstate 2 count 2 0=2/0 1=2/1\nstate 3 count 0\n"},
-    // One cycle is left for all: the bay that comes second does not get it, though it has made no step.
-    {netrun, 4, 3, 9, {{SET_USED, ALLOWANCE - 1, 0}, {SET_COUNT + 3, ALLOWANCE - 1, 0}, STEP(1), STEP(0), STEP(3), {SET_COUNT + 3, ALLOWANCE, 0}, STEP(0),
-      {FRESH_RECORD, 0, 0}, STEP(0)},
-     "load 0\nfresh 0\nbay 1: refusal 0 0=1\nbay 0: refusal 16\nbay 3: refusal 16\nbay 0: refusal 13\nfresh 0\nbay 0: refusal 0 0=1\nused 1 turn 0\n"
-     "state 0 count 1 0=1/0 1=1/1\nstate 1 count 0\nstate 2 count 0\nstate 3 count 0\n"},
-    // What is wrong in one bay is refused in another; the number of the bay comes before the net, the net before the record.
-    {netrun, 4, 3, 16, {{SET_WORD + 2, 1, 9}, STEP(0), {SET_MARKS + 2, 1, 1}, STEP(0), STEP(2), {SET_MARKS + 1, 4, 1}, STEP(0), {SET_CHANNELS, 2, 0}, STEP(0),
-      STEP(255), {SET_CHANNELS, 3, 0}, {SET_MARKS + 1, 4, 0}, {SET_USED, 1, 0}, STEP(1), {SET_USED, 2, 0}, STEP(2)},
-     "load 0\nfresh 0\nbay 0: refusal 13\nbay 0: refusal 0 0=1\nbay 2: refusal 0 0=1 1=9 2=14\nbay 0: refusal 13\nbay 0: refusal 12\nbay 255: refusal 21\n"
-     "bay 1: refusal 13\nbay 2: refusal 0 0=2 1=1 2=6\nused 3 turn 0\n"
-     "state 0 count 1 0=1/0 1=1/1\nstate 1 count 0\nstate 2 count 2 0=2/0 1=2/1\nstate 3 count 0\n"},
+    // A bay that has one cycle left gets it and no more, and the others go on, though all counts together are far above the allowance; one above it earns 13.
+    {netrun, 4, 3, 9, {{SET_COUNT + 1, ALLOWANCE, 0}, {SET_COUNT + 3, ALLOWANCE - 1, 0}, STEP(3), STEP(3), STEP(1), STEP(0), {SET_COUNT + 3, ALLOWANCE + 1, 0},
+      STEP(3), STEP(0)},
+     "load 0\nfresh 0\nbay 3: refusal 0 0=1\nbay 3: refusal 16\nbay 1: refusal 16\nbay 0: refusal 0 0=1\nbay 3: refusal 13\nbay 0: refusal 0 0=2 1=1 2=6\n"
+     "turn 0\nstate 0 count 2 0=2/0 1=2/1\nstate 1 count 1048576\nstate 2 count 0\nstate 3 count 1048577 0=1/0 1=1/1\n"},
+    // What is wrong in one bay is refused there and in no other; the number of the bay comes before the net, the net before the state.
+    {netrun, 4, 3, 14, {{SET_WORD + 2, 1, 9}, STEP(0), STEP(2), {SET_MARKS + 2, 1, 1}, STEP(2), {SET_MARKS + 1, 4, 1}, STEP(0), STEP(1), {SET_CHANNELS, 2, 0},
+      STEP(1), STEP(255), {SET_CHANNELS, 3, 0}, {SET_MARKS + 1, 4, 0}, STEP(1)},
+     "load 0\nfresh 0\nbay 0: refusal 0 0=1\nbay 2: refusal 13\nbay 2: refusal 0 0=1 1=9 2=14\nbay 0: refusal 0 0=2 1=1 2=6\nbay 1: refusal 13\n"
+     "bay 1: refusal 12\nbay 255: refusal 21\nbay 1: refusal 0 0=1\nturn 0\n"
+     "state 0 count 2 0=2/0 1=2/1\nstate 1 count 1 0=1/0 1=1/1\nstate 2 count 1 0=1/0 1=1/1\nstate 3 count 0\n"},
     // Without masks nothing moves, but it counts; with a ready mask alone a word that is held goes on.
     {netrun, 4, 3, 6, {{3, 0, 0}, {3, ~0u, 0}, {3, ~0u, 0}, {3, 0, 0}, {3, 0, 1}, {3, 0, 1}},
      "load 0\nfresh 0\nbay 3: refusal 0\nbay 3: refusal 0 0=1\nbay 3: refusal 0\nbay 3: refusal 0\nbay 3: refusal 0 0=2 1=1 2=6\nbay 3: refusal 0 1=2 2=7\n"
-     "used 6 turn 0\nstate 0 count 0\nstate 1 count 0\nstate 2 count 0\nstate 3 count 6 0=2/0\n"},
-    // The shape of forks and merges: marks 2 of a fork of 2, then 3; winner 3 of 2, then marks 3; winner 2 whose report has gone; marks without a winner.
-    // A source's position may be any number.
-    {doubled, 5, 5, 17, {{SET_MARKS, 1, 2}, STEP(1), {SET_MARKS, 1, 3}, STEP(1), {SET_MARKS, 1, 0}, {SET_WORD, 2, 3}, STEP(1), {SET_WORD, 2, 2},
-      {SET_MARKS, 2, 3}, STEP(1), {SET_MARKS, 2, 2}, STEP(0), {SET_MARKS + 3, 2, 1}, STEP(0), {SET_MARKS + 3, 2, 0}, {SET_WORD + 3, 0, 77}, STEP(3)},
-     "load 0\nfresh 0\nbay 1: refusal 0 1=1 3=1 4=0\nbay 1: refusal 13\nbay 1: refusal 13\nbay 1: refusal 13\nbay 0: refusal 0 2=1 3=1\nbay 0: refusal 13\n"
-     "bay 3: refusal 0\nused 3 turn 0\nstate 0 count 1 0=0/1 1=0/2\nstate 1 count 1 0=0/1 1=0/1\nstate 2 count 0\nstate 3 count 1 0=77/0\n"},
+     "turn 0\nstate 0 count 0\nstate 1 count 0\nstate 2 count 0\nstate 3 count 6 0=2/0\n"},
+    // The shape of forks and merges: marks 3 of a fork of 2; winner 3 of 2, then marks 3; winner 2 whose report has gone; marks 2 of a fork of 2; marks without
+    // a winner. A source's position may be any number.
+    {doubled, 5, 5, 17, {{SET_MARKS, 1, 3}, STEP(0), {SET_MARKS, 1, 0}, {SET_WORD, 2, 3}, STEP(0), {SET_WORD, 2, 2}, {SET_MARKS, 2, 3}, STEP(0),
+      {SET_MARKS, 2, 2}, STEP(0), {SET_MARKS + 1, 1, 2}, STEP(1), {SET_MARKS + 3, 2, 1}, STEP(3), {SET_MARKS + 3, 2, 0}, {SET_WORD + 3, 0, 77}, STEP(3)},
+     "load 0\nfresh 0\nbay 0: refusal 13\nbay 0: refusal 13\nbay 0: refusal 13\nbay 0: refusal 0 2=1 3=1\nbay 1: refusal 0 0=1 1=1 3=1 4=0\n"
+     "bay 3: refusal 13\nbay 3: refusal 0\nturn 0\nstate 0 count 1 0=0/1 1=0/2\nstate 1 count 1 0=1/0\nstate 2 count 0\nstate 3 count 1 0=77/0\n"},
     // All four want: they are served in turn, each with its own masks. Bay 0 offers only, bay 1 takes only, bay 3 does neither until it gets masks.
     {netrun, 4, 3, 12, {{SET_MASKS, 1, 0}, {SET_MASKS + 1, 0, 1}, MASKS(2), CALL(15), CALL(15), CALL(15), CALL(15), CALL(15), CALL(15), CALL(15), MASKS(3),
       CALL(15)},
      "load 0\nfresh 0\nnext bay 0: refusal 0 0=1\nnext bay 1: refusal 0\nnext bay 2: refusal 0 0=1\nnext bay 3: refusal 0\nnext bay 0: refusal 0\n"
-     "next bay 1: refusal 0\nnext bay 2: refusal 0 0=2 1=1 2=6\nnext bay 3: refusal 0 0=1\nused 8 turn 0\n"
+     "next bay 1: refusal 0\nnext bay 2: refusal 0 0=2 1=1 2=6\nnext bay 3: refusal 0 0=1\nturn 0\n"
      "state 0 count 2 0=1/1 1=1/1\nstate 1 count 2\nstate 2 count 2 0=2/0 1=2/1\nstate 3 count 2 0=1/0 1=1/1\n"},
     // All but bay 2 want, and bay 1 finds no ends: it is served with 14, and comes again when the others have been served.
     {netrun, 4, 3, 9, {ALL_MASKS, CALL(11), {NEXT, 11, 0}, CALL(11), CALL(11), CALL(11)},
      "load 0\nfresh 0\nnext bay 0: refusal 0 0=1\nnext bay 1: refusal 14\nnext bay 3: refusal 0 0=1\nnext bay 0: refusal 0 0=2 1=1 2=6\n"
-     "next bay 1: refusal 0 0=1\nused 4 turn 2\nstate 0 count 2 0=2/0 1=2/1\nstate 1 count 1 0=1/0 1=1/1\nstate 2 count 0\nstate 3 count 1 0=1/0 1=1/1\n"},
+     "next bay 1: refusal 0 0=1\nturn 2\nstate 0 count 2 0=2/0 1=2/1\nstate 1 count 1 0=1/0 1=1/1\nstate 2 count 0\nstate 3 count 1 0=1/0 1=1/1\n"},
     // A turn of 7: masks that name none of the four are no fault, others are, and so is a step. A turn of 258 is one of 2.
     {netrun, 4, 3, 14, {ALL_MASKS, {SET_TURN, 7, 0}, CALL(0), CALL(0x80000010), CALL(1), {NEXT, 15, 0}, STEP(3), STEP(4), {SET_TURN, 258, 0}, CALL(0),
       CALL(0xf5)},
      "load 0\nfresh 0\nnext no bay: refusal 0\nnext no bay: refusal 0\nnext no bay: refusal 13\nnext no bay: refusal 13\nbay 3: refusal 13\n"
-     "bay 4: refusal 21\nnext no bay: refusal 0\nnext bay 2: refusal 0 0=1\nused 1 turn 3\n"
+     "bay 4: refusal 21\nnext no bay: refusal 0\nnext bay 2: refusal 0 0=1\nturn 3\n"
      "state 0 count 0\nstate 1 count 0\nstate 2 count 1 0=1/0 1=1/1\nstate 3 count 0\n"},
     // The same with a net that is spoilt: the turn comes before the net in a call, and behind it in a step. From a turn within the four bays each call earns 12
     // and moves it.
     {netrun, 4, 3, 14, {ALL_MASKS, {SET_CHANNELS, 2, 0}, {SET_TURN, 7, 0}, CALL(15), STEP(0), CALL(16), {SET_TURN, 3, 0}, CALL(15), CALL(14),
       {SET_CHANNELS, 3, 0}, CALL(15)},
      "load 0\nfresh 0\nnext no bay: refusal 13\nbay 0: refusal 12\nnext no bay: refusal 0\nnext bay 3: refusal 12\nnext bay 1: refusal 12\n"
-     "next bay 2: refusal 0 0=1\nused 1 turn 3\nstate 0 count 0\nstate 1 count 0\nstate 2 count 1 0=1/0 1=1/1\nstate 3 count 0\n"},
+     "next bay 2: refusal 0 0=1\nturn 3\nstate 0 count 0\nstate 1 count 0\nstate 2 count 1 0=1/0 1=1/1\nstate 3 count 0\n"},
     // Steps outside leave the turn, refused or not; a fresh record begins with bay 0 again, and the masks stay. From turn 3 the bays below are asked in turn.
     {netrun, 4, 3, 14, {ALL_MASKS, CALL(15), STEP(1), STEP(1), STEP(7), STEP(3), CALL(15), {FRESH_RECORD, 0, 0}, CALL(15), CALL(4), CALL(3)},
      "load 0\nfresh 0\nnext bay 0: refusal 0 0=1\nbay 1: refusal 0 0=1\nbay 1: refusal 0 0=2 1=1 2=6\nbay 7: refusal 21\nbay 3: refusal 0 0=1\n"
      "next bay 1: refusal 0 0=3 1=2 2=7\nfresh 0\nnext bay 0: refusal 0 0=1\nnext bay 2: refusal 0 0=1\nnext bay 0: refusal 0 0=2 1=1 2=6\n"
-     "used 3 turn 1\nstate 0 count 2 0=2/0 1=2/1\nstate 1 count 0\nstate 2 count 1 0=1/0 1=1/1\nstate 3 count 0\n"},
-    // What is wrong in bay 2 is refused in bay 0 and in bay 2, and each has had its turn; so is every bay when the allowance is used up.
-    {netrun, 4, 3, 15, {ALL_MASKS, {SET_WORD + 2, 1, 9}, CALL(15), CALL(4), CALL(0), {SET_WORD + 2, 1, 0}, CALL(15), {SET_COUNT + 1, ALLOWANCE - 1, 0},
-      {SET_USED, ALLOWANCE, 0}, CALL(15), CALL(15), STEP(2)},
-     "load 0\nfresh 0\nnext bay 0: refusal 13\nnext bay 2: refusal 13\nnext no bay: refusal 0\nnext bay 3: refusal 0 0=1\nnext bay 0: refusal 16\n"
-     "next bay 1: refusal 16\nbay 2: refusal 16\nused 1048576 turn 2\nstate 0 count 0\nstate 1 count 1048575\nstate 2 count 0\nstate 3 count 1 0=1/0 1=1/1\n"},
+     "turn 1\nstate 0 count 2 0=2/0 1=2/1\nstate 1 count 0\nstate 2 count 1 0=1/0 1=1/1\nstate 3 count 0\n"},
+    // What is wrong in bay 2 is refused in bay 2 alone, which has had its turn; so is a bay that has used its cycles, and the others go on.
+    {netrun, 4, 3, 15, {ALL_MASKS, {SET_WORD + 2, 1, 9}, CALL(15), CALL(4), CALL(0), {SET_WORD + 2, 1, 0}, CALL(15), {SET_COUNT + 1, ALLOWANCE, 0}, CALL(15),
+      CALL(15), CALL(15), STEP(1)},
+     "load 0\nfresh 0\nnext bay 0: refusal 0 0=1\nnext bay 2: refusal 13\nnext no bay: refusal 0\nnext bay 3: refusal 0 0=1\n"
+     "next bay 0: refusal 0 0=2 1=1 2=6\nnext bay 1: refusal 16\nnext bay 2: refusal 0 0=1\nbay 1: refusal 16\nturn 3\n"
+     "state 0 count 2 0=2/0 1=2/1\nstate 1 count 1048576\nstate 2 count 1 0=1/0 1=1/1\nstate 3 count 1 0=1/0 1=1/1\n"},
 };
 
 static void compare_by_hand(const struct scene *s, const struct known *known)
@@ -440,7 +457,7 @@ static const struct { const char *name; scene_rule *net, *commands; unsigned tim
     {"registers in shape and out of it", draw_small, with_registers_set, 2},
     {"registers of nets with merges", draw_merging, with_registers_set, 1},
     {"registers of large nets", draw_large, with_registers_set, 1},
-    {"counts and cycles used", draw_small, with_counts_set, 2},
+    {"counts in range and out of it", draw_small, with_counts_set, 2},
     {"near the allowance", draw_small, near_the_allowance, 2},
     {"several faults at once", draw_any_ends, with_several_faults, 2},
     {"refused forms", draw_refused, with_all_set, 1},
@@ -463,7 +480,7 @@ static const struct { const char *name; scene_rule *net, *commands; unsigned tim
 
 // The refusals that a bay may be served with.
 enum { SERVED_REFUSALS = 4 };
-static const unsigned served_refusals[SERVED_REFUSALS] = {BAD_NET, BAD_RECORD, BAD_ENDS, ALLOWANCE_USED};
+static const unsigned served_refusals[SERVED_REFUSALS] = {BAD_NET, BAD_STATE, BAD_ENDS, ALLOWANCE_USED};
 
 // What the nets were like.
 static unsigned long of_kind[KINDS], of_64_blocks;
@@ -485,6 +502,7 @@ static void try_case(unsigned class, unsigned i)
     begin_case(&s);
     classes[class].commands(&s, &r, i);
     compare_case(&s);
+    if (i % ALONE_EVERY == 0 && classes[class].commands != spoil_file) compare_alone(&s, below(&r, BAYS));
 }
 
 // The next cases of every class, so that what only one class shows is met early.
@@ -506,16 +524,17 @@ static void print_notes(void)
     for (unsigned k = 0; k < BAYS; k++)
         printf("bay %u: %lu steps, %lu of them in turn, %lu words delivered\n", k, steps[k], named[k][0], deliveries[k]);
     printf("calls that name no bay: %lu, from a turn beyond the bays: %lu; bays served in their fourth call: %lu; served and refused", named[BAYS][0],
-           named[BAYS][BAD_RECORD], served_fourth());
+           named[BAYS][BAD_STATE], served_fourth());
     for (unsigned i = 0; i < SERVED_REFUSALS; i++)
         printf(" %u: %lu%s", served_refusals[i], calls_refused(served_refusals[i]), i + 1 < SERVED_REFUSALS ? "," : "\n");
+    printf("steps of bays that are the same alone: %lu\n", alone_steps);
     printf("fresh records refused: %lu, files that are no case: %lu, nets of 64 blocks: %lu\nblocks of kind", fresh_refused, no_cases, of_64_blocks);
     for (unsigned kind = 0; kind < KINDS; kind++) printf(" %u: %lu%s", kind, of_kind[kind], kind + 1 < KINDS ? "," : "\n");
 }
 
 static void require_refusals(void)
 {
-    static const unsigned wanted[] = {1, 2, 3, 4, 5, 6, 7, 8, 9, 10, 11, BAD_NET, BAD_RECORD, BAD_ENDS, ALLOWANCE_USED, NO_BAY};
+    static const unsigned wanted[] = {1, 2, 3, 4, 5, 6, 7, 8, 9, 10, 11, BAD_NET, BAD_STATE, BAD_ENDS, ALLOWANCE_USED, NO_BAY};
     char what[40];
     for (unsigned i = 0; i < sizeof wanted / sizeof wanted[0]; i++) {
         snprintf(what, sizeof what, "refusal %u", wanted[i]);
@@ -528,7 +547,7 @@ static void require_calls(void)
     for (unsigned k = 0; k < BAYS; k++) require(named[k][0] > 0, "a step of each bay in turn");
     for (unsigned i = 0; i < SERVED_REFUSALS; i++) require(calls_refused(served_refusals[i]) > 0, "a refusal of a bay that is served");
     require(named[BAYS][0] > 0, "a mask that names no bay");
-    require(named[BAYS][BAD_RECORD] > 0, "a turn beyond the four bays");
+    require(named[BAYS][BAD_STATE] > 0, "a turn beyond the four bays");
     require(served_fourth() > 0, "a bay that is served in the fourth call");
 }
 
@@ -539,6 +558,7 @@ static void require_notes(void)
     require_calls();
     for (unsigned k = 0; k < BAYS; k++) require(deliveries[k] > 0, "a delivery in each bay");
     for (unsigned kind = 0; kind < KINDS; kind++) require(of_kind[kind] > 0, "a kind of block");
+    require(alone_steps > 0, "a step that is the same alone");
     require(fresh_refused > 0, "a fresh record that is refused");
     require(no_cases > 0, "a file that is no case");
     require(of_64_blocks > 0, "a net of 64 blocks");

@@ -1,5 +1,5 @@
-// Four bays on one net: each bay's step is the model's cycle on a state of its own; the record is judged whole before each step. A call of next steps the bay
-// whose turn it is.
+// Four bays on one net: each bay's step is the model's cycle on a state of its own, and of the record only that state and the turn are looked at. A call of
+// next steps the bay whose turn it is.
 #include "bays.h"
 #include "model.c"
 
@@ -8,7 +8,7 @@ enum { REGISTERS = 64, CHANNELS = 128 };
 struct state { uint32_t count; struct reg reg[REGISTERS]; };
 
 // The turn is the bay that the next call of next asks first.
-struct record { struct state state[BAYS]; uint32_t used, turn; };
+struct record { struct state state[BAYS]; uint32_t turn; };
 
 // What a step gave out on each channel.
 struct given { uint32_t mark[CHANNELS], word[CHANNELS]; };
@@ -55,18 +55,9 @@ static int state_in_shape(const struct net *net, const struct state *state)
     return state->count <= CYCLE_LIMIT;
 }
 
-static uint64_t sum_of_counts(const struct record *record)
+static int turn_is_bad(const struct record *record)
 {
-    uint64_t sum = 0;
-    for (unsigned k = 0; k < BAYS; k++) sum += record->state[k].count;
-    return sum;
-}
-
-static int record_is_bad(const struct net *net, const struct record *record)
-{
-    for (unsigned k = 0; k < BAYS; k++)
-        if (!state_in_shape(net, &record->state[k])) return 1;
-    return record->used != sum_of_counts(record) || record->used > ALLOWANCE || record->turn >= BAYS;
+    return record->turn >= BAYS;
 }
 
 static int ends_are_bad(struct depot *d)
@@ -79,9 +70,9 @@ static uint32_t refusal_of_step(struct depot *d, uint32_t bay)
 {
     if (bay >= BAYS) return NO_BAY;
     if (net_is_bad(d)) return BAD_NET;
-    if (record_is_bad(&d->circuit.net, &d->record)) return BAD_RECORD;
+    if (turn_is_bad(&d->record) || !state_in_shape(&d->circuit.net, &d->record.state[bay])) return BAD_STATE;
     if (ends_are_bad(d)) return BAD_ENDS;
-    return d->record.used == ALLOWANCE ? ALLOWANCE_USED : 0;
+    return d->record.state[bay].count == ALLOWANCE ? ALLOWANCE_USED : 0;
 }
 
 // ---- The three calls
@@ -116,7 +107,6 @@ static uint32_t step_bay(struct depot *d, uint32_t bay, uint32_t offer, uint32_t
     uint32_t refusal = refusal_of_step(d, bay);
     if (refusal) return refusal;
     step_state(&d->circuit, &d->record.state[bay], offer, ready, given);
-    d->record.used++;
     return 0;
 }
 
@@ -137,7 +127,7 @@ static uint32_t first_wanting(uint32_t turn, uint32_t want)
 static struct served next(struct depot *d, uint32_t want, struct given *given)
 {
     if (names_no_bay(want)) return (struct served){BAYS, 0};
-    if (d->record.turn >= BAYS) return (struct served){BAYS, BAD_RECORD};
+    if (turn_is_bad(&d->record)) return (struct served){BAYS, BAD_STATE};
     uint32_t bay = first_wanting(d->record.turn, want);
     uint32_t refusal = step_bay(d, bay, d->masks[2 * bay], d->masks[2 * bay + 1], given);
     d->record.turn = (bay + 1) % BAYS;
@@ -203,12 +193,11 @@ static void print_command(FILE *out, struct depot *d, uint32_t command, uint32_t
 {
     if (command <= LAST_STEP) print_step(out, d, command, a, b);
     else if (command == FRESH_RECORD) fprintf(out, "fresh %u\n", calls.fresh(d));
-    else if (command == SET_USED) d->record.used = a;
     else if (command == SET_CHANNELS) d->channels = a % 256;
     else if (command == NEXT) print_next(out, d, a, b);
-    else if (command < SET_MASKS) set_state(&d->record, command, a, b);
-    else if (command < SET_TURN) set_masks(d, command - SET_MASKS, a, b);
     else if (command == SET_TURN) d->record.turn = a % 256;
+    else if (command < SET_MASKS) set_state(&d->record, command, a, b);
+    else if (command < NO_COMMAND) set_masks(d, command - SET_MASKS, a, b);
 }
 
 static void print_state(FILE *out, const struct record *record, unsigned k)
@@ -250,6 +239,6 @@ void print_case(FILE *out, const uint8_t *bytes, size_t len)
     fprintf(out, "load %u\nfresh %u\n", d.refusal, calls.fresh(&d));
     for (; len - at >= COMMAND_BYTES; at += COMMAND_BYTES)
         print_command(out, &d, number_at(bytes + at, 0), number_at(bytes + at, 1), number_at(bytes + at, 2));
-    fprintf(out, "used %u turn %u\n", d.record.used, d.record.turn);
+    fprintf(out, "turn %u\n", d.record.turn);
     for (unsigned k = 0; k < BAYS; k++) print_state(out, &d.record, k);
 }

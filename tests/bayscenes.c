@@ -27,6 +27,12 @@ void add(struct scene *s, uint32_t command, uint32_t a, uint32_t b)
     if (commands_left(s) > 0) put_numbers(s, (uint32_t[]){command, a, b}, 3);
 }
 
+uint32_t number_of(const struct scene *s, size_t at, unsigned i)
+{
+    const uint8_t *bytes = s->bytes + at + 4 * i;
+    return (uint32_t)bytes[0] << 24 | (uint32_t)bytes[1] << 16 | (uint32_t)bytes[2] << 8 | bytes[3];
+}
+
 // A case without commands: header, form, words, ends.
 void begin_case(struct scene *s)
 {
@@ -271,85 +277,51 @@ unsigned spoil_registers(struct scene *s, struct random *r, unsigned bay)
     return b;
 }
 
-// Four counts, and the cycles used, which need not be their sum.
-void set_counts(struct scene *s, const uint32_t *counts, uint32_t used)
+void set_counts(struct scene *s, const uint32_t *counts)
 {
     for (unsigned k = 0; k < BAYS; k++) add(s, SET_COUNT + k, counts[k], 0);
-    add(s, SET_USED, used, 0);
 }
 
-// Splits a sum into four counts: all in one bay, about evenly, or anyhow.
-void split(struct random *r, uint32_t sum, uint32_t *counts)
+// At most so many are left to a bay, to a few or to all; the others have hardly begun.
+void leave_cycles(struct scene *s, struct random *r, unsigned left)
 {
-    unsigned way = below(r, 3), order[BAYS];
-    uint32_t rest = sum;
-    shuffle(r, BAYS, order);
-    for (unsigned n = 0; n < BAYS; n++) {
-        uint32_t part = way == 0 ? rest : way == 1 ? sum / BAYS : below(r, rest + 1);
-        counts[order[n]] = n == BAYS - 1 || part > rest ? rest : part;
-        rest -= counts[order[n]];
-    }
+    uint32_t counts[BAYS];
+    unsigned rare = ONE_OF(r, 1, 2, 4), sure = below(r, BAYS);
+    for (unsigned k = 0; k < BAYS; k++) counts[k] = k == sure || chance(r, rare) ? ALLOWANCE - below(r, left + 1) : below(r, 50);
+    set_counts(s, counts);
 }
 
-// Counts whose sum goes round at 2^32 to a small number: what one count has more, another has less. Answers the small number.
-static uint32_t split_round(struct random *r, uint32_t *counts)
+// Two counts, of which one at least is out of range most of the time, whose sum goes round at 2^32 to a small number.
+static void count_round(struct random *r, unsigned bay, uint32_t *counts)
 {
-    uint32_t sum = below(r, 20), first = below(r, BAYS), second = (first + 1 + below(r, BAYS - 1)) % BAYS;
-    split(r, sum, counts);
-    uint32_t moved = ONE_OF(r, 0x80000000, 0x40000000, 0xffffffff, 0xfff00000, 1 + ALLOWANCE, 0x3fffffff) + (chance(r, 2) ? below(r, 100) : 0);
-    counts[first] += moved;
-    counts[second] -= moved;
-    return sum;
-}
-
-// Counts that are each in range, but at the limit or well below it, so that their sum is above the allowance. Answers the sum.
-static uint32_t split_above(struct random *r, uint32_t *counts)
-{
-    uint32_t sum = 0;
-    for (unsigned k = 0; k < BAYS; k++) sum += counts[k] = ALLOWANCE - below(r, chance(r, 2) ? 2 : ALLOWANCE / 2);
-    return sum;
-}
-
-// The allowance is used up, and one bay has made a step more.
-static uint32_t split_one_above(struct random *r, unsigned bay, uint32_t *counts)
-{
-    do split(r, ALLOWANCE, counts);
-    while (counts[bay] == ALLOWANCE);
-    counts[bay]++;
-    return ALLOWANCE + 1;
+    uint32_t moved = ONE_OF(r, 0x80000000, 0x40000000, 0xffffffff, 0xfff00000, 1 + ALLOWANCE, 0x3fffffff) + below(r, 100);
+    counts[bay] += moved;
+    counts[(bay + 1 + below(r, BAYS - 1)) % BAYS] -= moved;
 }
 
 void spoil_counts(struct scene *s, struct random *r, unsigned fault)
 {
-    uint32_t counts[BAYS], used = chance(r, 2) ? below(r, 50) : below(r, ALLOWANCE), bay = below(r, BAYS);
-    split(r, used, counts);
+    uint32_t counts[BAYS], bay = below(r, BAYS), most = chance(r, 2) ? 50 : ALLOWANCE, half = ALLOWANCE / 2;
+    for (unsigned k = 0; k < BAYS; k++) counts[k] = fault == ALL_FULL ? ALLOWANCE : fault == SUM_ABOVE ? half + below(r, half) : below(r, most);
     switch (fault) {
-    case USED_MORE: used++; break;
-    case USED_LESS: used--; break;
-    case USED_OFF: used ^= 1u << below(r, 32); break;
-    case USED_ANY: used = ONE_OF(r, 0, 1, ALLOWANCE, ALLOWANCE + 1, 0xffffffff); break;
-    case COUNT_MORE: counts[bay]++; break;
-    case COUNT_LESS: counts[bay]--; break;
-    case COUNT_OFF: counts[bay] ^= 1u << below(r, 32); break;
-    case ONE_ABOVE: used = split_one_above(r, bay, counts); break;
-    case FAR_ABOVE: used = split_above(r, counts); break;
-    case ONE_BAY_ABOVE: memset(counts, 0, sizeof counts); used = counts[bay] = ALLOWANCE + 1; break;
-    case ROUND: used = split_round(r, counts); break;
+    case ONE_FULL: counts[bay] = ALLOWANCE; break;
+    case ONE_ABOVE: counts[bay] = ALLOWANCE + 1; break;
+    case FAR_ABOVE: counts[bay] = ONE_OF(r, ALLOWANCE + 2, 2 * ALLOWANCE, 0x80000000, 0xffffffff, 0xffff0000 + counts[bay] % 0x10000); break;
+    case ROUND: count_round(r, bay, counts); break;
     default: break;
     }
-    set_counts(s, counts, used);
+    set_counts(s, counts);
 }
 
-// A fault of the record: registers behind the blocks, registers of a sink, the cycles used, a count. Before it, the cycles used are at most 1 or the allowance.
-void spoil_record(struct scene *s, struct random *r)
+// A fault of a bay's state: registers behind the blocks, registers of a sink, a count above the allowance.
+void spoil_bay(struct scene *s, struct random *r, unsigned bay)
 {
-    unsigned bay = below(r, BAYS), b = 0;
+    unsigned b = 0;
     while (b < s->draft.blocks && s->draft.block[b].kind != SINK) b++;
-    switch (below(r, 4)) {
+    switch (below(r, 3)) {
     case 0: set_registers(s, r, bay, 63, 1 + below(r, 9), 0); break;
     case 1: set_registers(s, r, bay, b % 64, 0, 1 + below(r, 255)); break;
-    case 2: add(s, SET_USED, ONE_OF(r, 2, ALLOWANCE - 1, ALLOWANCE + 1, 0xffffffff), 0); break;
-    default: add(s, SET_COUNT + bay, ONE_OF(r, 7, ALLOWANCE + 1, 0xffffffff), 0); break;
+    default: add(s, SET_COUNT + bay, ONE_OF(r, ALLOWANCE + 1, ALLOWANCE + 2, 0xffffffff), 0); break;
     }
 }
 

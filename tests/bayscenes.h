@@ -19,11 +19,12 @@ struct scene {
     uint8_t bytes[CASE_ROOM];
 };
 
-// A case without commands; numbers at its end; how many commands have room; a command, if it has room.
+// A case without commands; numbers at its end; how many commands have room; a command, if it has room; a number of the command at some place, from 0 on.
 void begin_case(struct scene *s);
 void put_numbers(struct scene *s, const uint32_t *numbers, size_t count);
 unsigned commands_left(const struct scene *s);
 void add(struct scene *s, uint32_t command, uint32_t a, uint32_t b);
+uint32_t number_of(const struct scene *s, size_t at, unsigned i);
 
 // A step of a bay with its next masks, where a number of no bay takes those of some bay; some steps of any bays; one of each.
 void step(struct scene *s, unsigned bay);
@@ -57,17 +58,17 @@ scene_rule draw_small, draw_merging, draw_large, draw_bad_ends, draw_any_ends, d
 void set_registers(struct scene *s, struct random *r, unsigned bay, unsigned block, uint32_t word, uint32_t marks);
 unsigned spoil_registers(struct scene *s, struct random *r, unsigned bay);
 
-// A sum as four counts; four counts, and the cycles used, which need not be their sum.
-void split(struct random *r, uint32_t sum, uint32_t *counts);
-void set_counts(struct scene *s, const uint32_t *counts, uint32_t used);
+// Four counts; the counts of bays to which at most so many cycles are left, of all or of some.
+void set_counts(struct scene *s, const uint32_t *counts);
+void leave_cycles(struct scene *s, struct random *r, unsigned left);
 
-// What becomes of the counts: another split; used off by one, by a power of two, wholly; a count off by one or by a power of two; a sum above the allowance, by
-// one or by far, or by one bay alone; a sum that goes round.
-enum { SPLIT, USED_MORE, USED_LESS, USED_OFF, USED_ANY, COUNT_MORE, COUNT_LESS, COUNT_OFF, ONE_ABOVE, FAR_ABOVE, ONE_BAY_ABOVE, ROUND, COUNT_FAULTS };
+// What becomes of the counts: all in range; one or all of them at the allowance; one above it, by one or by far; each in range, but their sum above the
+// allowance; a sum that goes round at 2^32 to a small number.
+enum { IN_RANGE, ONE_FULL, ALL_FULL, ONE_ABOVE, FAR_ABOVE, SUM_ABOVE, ROUND, COUNT_FAULTS };
 void spoil_counts(struct scene *s, struct random *r, unsigned fault);
 
-// A fault of a record in which one step was made, or the allowance used up; a channel count that is not the net's own.
-void spoil_record(struct scene *s, struct random *r);
+// A fault of a bay's state; a channel count that is not the net's own.
+void spoil_bay(struct scene *s, struct random *r, unsigned bay);
 uint32_t other_channels(struct random *r, const struct draft *d);
 
 #endif

@@ -118,14 +118,6 @@ static void call_refused(struct scene *s, struct random *r, uint32_t lent)
     }
 }
 
-// Counts so that some cycles are left.
-static void leave_cycles(struct scene *s, struct random *r, unsigned left)
-{
-    uint32_t counts[BAYS];
-    split(r, ALLOWANCE - left, counts);
-    set_counts(s, counts, ALLOWANCE - left);
-}
-
 enum { OF_NET, OF_ENDS, OF_REGISTERS, OF_COUNTS, OF_ALLOWANCE, REFUSAL_WAYS };
 
 // Calls that are refused in one way, or nearly; then what was spoilt is made good, and the turn is where they left it.
@@ -140,7 +132,7 @@ static void refuse_calls(struct scene *s, struct random *r, unsigned way)
     call_refused(s, r, way == OF_ENDS ? below(r, (uint32_t)s->end_count) : ~0u);
     if (way == OF_NET) set_channels(s, s->draft.channels);
     if (way == OF_REGISTERS) set_registers(s, r, bay, block, 0, 0);
-    if (way == OF_COUNTS || way == OF_ALLOWANCE) set_counts(s, none, 0);
+    if (way == OF_COUNTS || way == OF_ALLOWANCE) set_counts(s, none);
 }
 
 void with_refused_calls(struct scene *s, struct random *r, unsigned i)
@@ -168,7 +160,15 @@ void over_some_ends(struct scene *s, struct random *r, unsigned i)
 
 // ---- Several faults at once
 
-enum { EMPTY_MASK = 1, TURN_BEYOND = 2, SPOILT_NET = 4, SPOILT_RECORD = 8, ENDS_TOO_FEW = 16, ALL_CYCLES_USED = 32, SETS_OF_FAULTS = 64 };
+enum { EMPTY_MASK = 1, TURN_BEYOND = 2, SPOILT_NET = 4, SPOILT_BAYS = 8, ENDS_TOO_FEW = 16, ALL_CYCLES_USED = 32, SETS_OF_FAULTS = 64 };
+
+// One bay is spoilt, or most of them.
+static void spoil_bays(struct scene *s, struct random *r)
+{
+    unsigned some = below(r, BAYS), most = chance(r, 2);
+    for (unsigned k = 0; k < BAYS; k++)
+        if (k == some || (most && !chance(r, 4))) spoil_bay(s, r, k);
+}
 
 // A call and a step with a set of faults, and what the turn is then.
 static void add_faults(struct scene *s, struct random *r, unsigned faults)
@@ -176,7 +176,7 @@ static void add_faults(struct scene *s, struct random *r, unsigned faults)
     add(s, FRESH_RECORD, 0, 0);
     call_next(s, r, 1u << below(r, BAYS));
     if (faults & ALL_CYCLES_USED) leave_cycles(s, r, 0);
-    if (faults & SPOILT_RECORD) spoil_record(s, r);
+    if (faults & SPOILT_BAYS) spoil_bays(s, r);
     if (faults & SPOILT_NET) set_channels(s, other_channels(r, &s->draft));
     if (faults & TURN_BEYOND) set_turn(s, r, draw_turn_beyond(r));
     uint32_t want = faults & EMPTY_MASK ? 0 : 1 + below(r, ALL_BAYS);
@@ -237,19 +237,13 @@ unsigned long served_fourth(void)
     return in_the_fourth;
 }
 
-static uint32_t number_at(const uint8_t *bytes)
-{
-    return (uint32_t)bytes[0] << 24 | (uint32_t)bytes[1] << 16 | (uint32_t)bytes[2] << 8 | bytes[3];
-}
-
 // The bays that want a cycle in the next call of the case. Where the turn is set before it, all waiting begins anew.
 static uint32_t want_of_call(void)
 {
     while (waiting.at + COMMAND_BYTES <= waiting.scene->len) {
-        const uint8_t *at = waiting.scene->bytes + waiting.at;
-        uint32_t command = number_at(at);
+        uint32_t command = number_of(waiting.scene, waiting.at, 0), want = number_of(waiting.scene, waiting.at, 1);
         waiting.at += COMMAND_BYTES;
-        if (command == NEXT) return number_at(at + 4) & ALL_BAYS;
+        if (command == NEXT) return want & ALL_BAYS;
         if (command == FRESH_RECORD || command == SET_TURN) wait_anew();
     }
     return 0;
@@ -273,5 +267,5 @@ const char *fault_of_call(unsigned bay, unsigned refusal)
     uint32_t want = want_of_call();
     if (bay < BAYS) return want >> bay & 1 ? fault_of_waiting(want, bay) : "a bay is served that does not want a cycle";
     wait_anew();
-    return refusal == (want ? BAD_RECORD : 0) ? NULL : "no bay is named, and the refusal is not the one for that";
+    return refusal == (want ? BAD_STATE : 0) ? NULL : "no bay is named, and the refusal is not the one for that";
 }

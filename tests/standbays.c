@@ -2,7 +2,7 @@
 #include "bays.c"
 #include <errno.h>
 
-// ---- The shape of a record
+// ---- The shape of a state
 
 // Makes good what the shape test is not to see in a block's registers.
 static void forgive(const struct block *b, struct reg *r)
@@ -48,9 +48,9 @@ static int broken_state_is_bad(const struct net *net, struct state state)
     for (uint32_t b = 0; b < net->blocks; b++)
         if (net->block[b].kind == SOURCE && state.reg[b].word > MOST_WORDS) return 1;
 #endif
-#ifdef SUM_IN_32_BITS
-    // A count is thought to be in range when the sum is, which goes round.
-    state.count = 0;
+#ifdef COUNT_ABOVE_PASSED
+    // Such a count is left to the allowance.
+    if (state.count > ALLOWANCE) state.count = ALLOWANCE;
 #endif
     return !state_in_shape(net, &state);
 }
@@ -58,44 +58,36 @@ static int broken_state_is_bad(const struct net *net, struct state state)
 // Whether a state is looked at when a bay makes a step.
 static int is_looked_at(unsigned k, uint32_t bay)
 {
+#ifdef EVERY_SHAPE_LOOKED_AT
     (void)k, (void)bay;
-#ifdef OWN_SHAPE_ONLY
-    return k == bay;
+    return 1;
+#elif defined NEXT_SHAPE_LOOKED_AT
+    return k == bay || k == (bay + 1) % BAYS;
 #elif defined FIRST_BAY_SHAPE_ONLY
+    (void)bay;
     return k == 0;
 #elif defined LAST_BAY_SHAPE_PASSED
-    return k < BAYS - 1;
+    return k == bay && k < BAYS - 1;
 #else
-    return 1;
+    return k == bay;
 #endif
 }
 
-static int broken_sum_is_bad(const struct record *record)
+static uint64_t sum_of_counts(const struct record *record)
 {
-    uint64_t sum = sum_of_counts(record);
-#ifdef SUM_NOT_TESTED
-    sum = record->used;
-#elif defined SUM_IN_32_BITS
-    sum = (uint32_t)sum;
-#elif defined SUM_IN_16_BITS
-    if (sum % 65536 == record->used % 65536) sum = record->used;
-#elif defined LESS_THAN_SUM_PASSED
-    if (record->used < sum) sum = record->used;
-#elif defined SUM_OF_THREE
-    sum -= record->state[BAYS - 1].count;
-#endif
-    return sum != record->used;
+    uint64_t sum = 0;
+    for (unsigned k = 0; k < BAYS; k++) sum += record->state[k].count;
+    return sum;
 }
 
-static int broken_record_is_bad(const struct net *net, const struct record *record, uint32_t bay)
+static int broken_bay_is_bad(const struct net *net, const struct record *record, uint32_t bay)
 {
     for (unsigned k = 0; k < BAYS; k++)
         if (is_looked_at(k, bay) && broken_state_is_bad(net, record->state[k])) return 1;
-    if (broken_sum_is_bad(record)) return 1;
-#ifdef ABOVE_ALLOWANCE_PASSED
-    return 0;
+#ifdef SUM_ABOVE_REFUSED
+    return sum_of_counts(record) > ALLOWANCE;
 #else
-    return record->used > ALLOWANCE;
+    return 0;
 #endif
 }
 
@@ -133,65 +125,72 @@ static int no_such_bay(uint32_t bay)
 
 static int allowance_is_used(const struct record *record, uint32_t bay)
 {
-    (void)bay;
-#ifdef ALLOWANCE_BY_OWN_COUNT
-    return record->state[bay % BAYS].count >= ALLOWANCE;
+    (void)bay, (void)sum_of_counts;
+#ifdef ALLOWANCE_BY_SUM
+    return sum_of_counts(record) >= ALLOWANCE;
+#elif defined ALLOWANCE_OF_BAY_0
+    return record->state[0].count >= ALLOWANCE;
+#elif defined ALLOWANCE_OF_ANY_BAY
+    uint32_t most = 0;
+    for (unsigned k = 0; k < BAYS; k++) most = record->state[k].count > most ? record->state[k].count : most;
+    return most >= ALLOWANCE;
 #elif defined ALLOWANCE_ONE_LESS
-    return record->used >= ALLOWANCE - 1;
+    return record->state[bay].count >= ALLOWANCE - 1;
 #elif defined ALLOWANCE_ONE_MORE
-    return record->used > ALLOWANCE;
+    return record->state[bay].count > ALLOWANCE;
 #else
-    return record->used >= ALLOWANCE;
+    return record->state[bay].count >= ALLOWANCE;
 #endif
 }
 
-// The turn is a part of the record, but may be looked at in another place. It earns the record's number.
+// The turn earns the number of the bay's state, but may be looked at in another place.
 enum { BAD_TURN = 113 };
 
 static const uint32_t order[] = {
 #ifdef BAY_AFTER_NET
-    BAD_NET, NO_BAY, BAD_TURN, BAD_RECORD, BAD_ENDS, ALLOWANCE_USED
+    BAD_NET, NO_BAY, BAD_TURN, BAD_STATE, BAD_ENDS, ALLOWANCE_USED
 #elif defined BAY_LAST
-    BAD_NET, BAD_TURN, BAD_RECORD, BAD_ENDS, ALLOWANCE_USED, NO_BAY
-#elif defined RECORD_BEFORE_NET
-    NO_BAY, BAD_TURN, BAD_RECORD, BAD_NET, BAD_ENDS, ALLOWANCE_USED
-#elif defined ENDS_BEFORE_RECORD
-    NO_BAY, BAD_NET, BAD_ENDS, BAD_TURN, BAD_RECORD, ALLOWANCE_USED
+    BAD_NET, BAD_TURN, BAD_STATE, BAD_ENDS, ALLOWANCE_USED, NO_BAY
+#elif defined STATE_BEFORE_NET
+    NO_BAY, BAD_TURN, BAD_STATE, BAD_NET, BAD_ENDS, ALLOWANCE_USED
+#elif defined ENDS_BEFORE_STATE
+    NO_BAY, BAD_NET, BAD_ENDS, BAD_TURN, BAD_STATE, ALLOWANCE_USED
 #elif defined ALLOWANCE_BEFORE_ENDS
-    NO_BAY, BAD_NET, BAD_TURN, BAD_RECORD, ALLOWANCE_USED, BAD_ENDS
-#elif defined ALLOWANCE_BEFORE_RECORD
-    NO_BAY, BAD_NET, ALLOWANCE_USED, BAD_TURN, BAD_RECORD, BAD_ENDS
+    NO_BAY, BAD_NET, BAD_TURN, BAD_STATE, ALLOWANCE_USED, BAD_ENDS
+#elif defined ALLOWANCE_BEFORE_STATE
+    NO_BAY, BAD_NET, ALLOWANCE_USED, BAD_TURN, BAD_STATE, BAD_ENDS
 #elif defined TURN_BEFORE_BAY
-    BAD_TURN, NO_BAY, BAD_NET, BAD_RECORD, BAD_ENDS, ALLOWANCE_USED
+    BAD_TURN, NO_BAY, BAD_NET, BAD_STATE, BAD_ENDS, ALLOWANCE_USED
 #elif defined TURN_BEFORE_NET
-    NO_BAY, BAD_TURN, BAD_NET, BAD_RECORD, BAD_ENDS, ALLOWANCE_USED
+    NO_BAY, BAD_TURN, BAD_NET, BAD_STATE, BAD_ENDS, ALLOWANCE_USED
 #elif defined TURN_AFTER_ENDS
-    NO_BAY, BAD_NET, BAD_RECORD, BAD_ENDS, BAD_TURN, ALLOWANCE_USED
+    NO_BAY, BAD_NET, BAD_STATE, BAD_ENDS, BAD_TURN, ALLOWANCE_USED
 #elif defined TURN_AFTER_ALLOWANCE
-    NO_BAY, BAD_NET, BAD_RECORD, BAD_ENDS, ALLOWANCE_USED, BAD_TURN
+    NO_BAY, BAD_NET, BAD_STATE, BAD_ENDS, ALLOWANCE_USED, BAD_TURN
 #elif defined TURN_NOT_SEEN_IN_A_STEP
-    NO_BAY, BAD_NET, BAD_RECORD, BAD_ENDS, ALLOWANCE_USED
+    NO_BAY, BAD_NET, BAD_STATE, BAD_ENDS, ALLOWANCE_USED
 #else
-    NO_BAY, BAD_NET, BAD_TURN, BAD_RECORD, BAD_ENDS, ALLOWANCE_USED
+    NO_BAY, BAD_NET, BAD_TURN, BAD_STATE, BAD_ENDS, ALLOWANCE_USED
 #endif
 };
 
 static int earns(struct depot *d, uint32_t bay, uint32_t refusal)
 {
+    uint32_t own = bay % BAYS;
     switch (refusal) {
     case NO_BAY: return no_such_bay(bay);
     case BAD_NET: return net_is_bad(d);
     case BAD_TURN: return taken_turn(&d->record) >= BAYS;
-    case BAD_RECORD: return broken_record_is_bad(&d->circuit.net, &d->record, bay);
+    case BAD_STATE: return broken_bay_is_bad(&d->circuit.net, &d->record, own);
     case BAD_ENDS: return ends_are_bad(d);
-    default: return allowance_is_used(&d->record, bay);
+    default: return allowance_is_used(&d->record, own);
     }
 }
 
 static uint32_t broken_refusal(struct depot *d, uint32_t bay)
 {
     for (unsigned i = 0; i < sizeof order / sizeof order[0]; i++)
-        if (earns(d, bay, order[i])) return order[i] == BAD_TURN ? BAD_RECORD : order[i];
+        if (earns(d, bay, order[i])) return order[i] == BAD_TURN ? BAD_STATE : order[i];
     return 0;
 }
 
@@ -203,7 +202,7 @@ static void after_refusal(struct depot *d, uint32_t bay, uint32_t refusal, uint3
     (void)d, (void)bay, (void)refusal, (void)offer, (void)ready, (void)given;
 #ifdef REFUSED_STEP_COUNTS
     // A step that is refused for its ends is counted.
-    if (refusal == BAD_ENDS) d->record.state[bay].count++, d->record.used++;
+    if (refusal == BAD_ENDS) d->record.state[bay].count++;
 #endif
 #ifdef REFUSED_STEP_MOVES
     // A step that is refused for the allowance moves words, and is not counted.
@@ -232,8 +231,8 @@ static void after_step(struct depot *d, uint32_t bay, uint32_t offer, uint32_t r
     (void)bay, (void)offer, (void)ready, (void)given, (void)state;
 #ifdef OTHER_BAY_MOVES
     struct given unseen;
-    step_state(&d->circuit, &state[(bay + 1) % BAYS], offer, ready, &unseen);
-    state[(bay + 1) % BAYS].count--;
+    struct state *other = &state[(bay + 1) % BAYS];
+    if (state_in_shape(&d->circuit.net, other)) step_state(&d->circuit, other, offer, ready, &unseen), other->count--;
 #endif
 #ifdef ONE_STATE_FOR_ALL
     for (unsigned k = 0; k < BAYS; k++) memcpy(state[k].reg, state[bay].reg, sizeof state[k].reg);
@@ -243,15 +242,15 @@ static void after_step(struct depot *d, uint32_t bay, uint32_t offer, uint32_t r
     for (uint32_t i = 0; i < BAYS * d->circuit.net.blocks; i++)
         if (d->circuit.net.block[i / BAYS].kind == SOURCE) state[i % BAYS].reg[i / BAYS].word = state[bay].reg[i / BAYS].word;
 #endif
-#ifdef USED_NOT_RAISED
-    d->record.used--;
-#endif
 #ifdef COUNT_NOT_RAISED
     state[bay].count--;
 #endif
 #ifdef COUNTED_IN_BAY_0
     state[bay].count--;
     state[0].count++;
+#endif
+#ifdef COUNTED_IN_EVERY_BAY
+    for (unsigned k = 0; k < BAYS; k++) state[k].count += k != bay;
 #endif
 #ifdef DELIVERIES_STAY
     // What the step before delivered stays where nothing is delivered now.
@@ -294,9 +293,8 @@ static uint32_t broken_step(struct depot *d, uint32_t bay, uint32_t offer, uint3
         return refusal;
     }
     take_masks(&offer, &ready);
-    for (unsigned k = 0; k < BAYS; k++) keep_winners(&d->circuit.net, &d->record.state[k]);
+    keep_winners(&d->circuit.net, &d->record.state[own]);
     step_state(&d->circuit, &d->record.state[own], offer, ready, given);
-    d->record.used++;
     after_step(d, own, offer, ready, given);
     return 0;
 }
@@ -310,12 +308,12 @@ static uint32_t broken_fresh(struct depot *d)
     const struct record before = d->record;
     uint32_t refusal = fresh_bays(d);
     (void)before;
-#ifdef FRESH_KEEPS_USED
-    d->record.used = before.used;
+#ifdef FRESH_KEEPS_COUNTS
+    if (!refusal)
+        for (unsigned k = 0; k < BAYS; k++) d->record.state[k].count = before.state[k].count;
 #endif
 #ifdef FRESH_MISSES_THE_LAST_BAY
-    d->record.used = d->record.state[BAYS - 1].count = before.state[BAYS - 1].count;
-    memcpy(d->record.state[BAYS - 1].reg, before.state[BAYS - 1].reg, sizeof before.state[BAYS - 1].reg);
+    d->record.state[BAYS - 1] = before.state[BAYS - 1];
 #endif
 #ifdef FULL_BUFFERS_IN_BAY_0_ONLY
     memset(&d->record.state[1], 0, (BAYS - 1) * sizeof d->record.state[1]);

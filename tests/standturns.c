@@ -97,8 +97,8 @@ static uint32_t moved_turn(uint32_t turn, uint32_t bay, uint32_t refusal)
     if (refusal) return turn;
 #elif defined REFUSED_BY_NET_KEEPS_TURN
     if (refusal == BAD_NET) return turn;
-#elif defined REFUSED_BY_RECORD_KEEPS_TURN
-    if (refusal == BAD_RECORD) return turn;
+#elif defined REFUSED_BY_STATE_KEEPS_TURN
+    if (refusal == BAD_STATE) return turn;
 #elif defined REFUSED_BY_ENDS_KEEPS_TURN
     if (refusal == BAD_ENDS) return turn;
 #elif defined REFUSED_BY_ALLOWANCE_KEEPS_TURN
@@ -150,15 +150,14 @@ static struct served after_refused_call(struct depot *d, uint32_t want, uint32_t
     struct state *state = &d->record.state[bay % BAYS];
     (void)want, (void)state;
 #ifdef REFUSED_CALL_COUNTS
-    if (refusal == BAD_ENDS) state->count++, d->record.used++;
+    if (refusal == BAD_ENDS) state->count++;
 #elif defined REFUSED_CALL_MOVES
     struct given unseen;
     if (refusal == ALLOWANCE_USED) step_state(&d->circuit, state, ~0u, ~0u, &unseen), state->count--;
 #elif defined REFUSED_CALL_CLEARS_RECORD
     memset(d->record.state, 0, sizeof d->record.state);
-    d->record.used = 0;
 #elif defined REFUSED_CALL_CLEARS_BAY
-    if (refusal == BAD_RECORD) memset(state, 0, sizeof *state);
+    if (refusal == BAD_STATE) memset(state, 0, sizeof *state);
 #elif defined REFUSED_CALL_NOT_REPORTED
     refusal = 0;
 #elif defined REFUSED_CALL_NAMES_NO_BAY
@@ -177,7 +176,7 @@ static uint32_t after_call(struct depot *d, uint32_t turn, uint32_t want, uint32
 #ifdef NEXT_DELIVERS_NOTHING
     memset(given, 0, sizeof *given);
 #elif defined NEXT_NOT_COUNTED
-    d->record.state[bay].count--, d->record.used--;
+    d->record.state[bay].count--;
 #elif defined NEXT_NAMES_THE_TURN
     return turn;
 #elif defined NEXT_STEPS_ALL_THAT_WANT
@@ -207,20 +206,28 @@ static struct served serve(struct depot *d, uint32_t want, struct given *given)
 
 // ---- Calls that name no bay
 
+// Whether some bay's state is out of shape, of a net that is not spoilt.
+static int some_state_is_bad(struct depot *d)
+{
+    for (unsigned k = 0; k < BAYS && !net_is_bad(d); k++)
+        if (!state_in_shape(&d->circuit.net, &d->record.state[k])) return 1;
+    return 0;
+}
+
 // What is tested before the empty mask.
 static uint32_t refused_before_all(struct depot *d, uint32_t want)
 {
-    (void)d, (void)want;
+    (void)d, (void)want, (void)some_state_is_bad;
 #ifdef BITS_BEYOND_REFUSED
     if (want >> BAYS) return NO_BAY;
 #elif defined EMPTY_EARNS_21
     if (names_no_bay(want)) return NO_BAY;
 #elif defined EMPTY_AFTER_TURN
-    if (d->record.turn >= BAYS) return BAD_RECORD;
+    if (d->record.turn >= BAYS) return BAD_STATE;
 #elif defined EMPTY_AFTER_NET
     if (names_no_bay(want) && net_is_bad(d)) return BAD_NET;
-#elif defined EMPTY_AFTER_RECORD
-    if (names_no_bay(want) && d->record.turn < BAYS && !net_is_bad(d) && record_is_bad(&d->circuit.net, &d->record)) return BAD_RECORD;
+#elif defined EMPTY_AFTER_STATES
+    if (names_no_bay(want) && some_state_is_bad(d)) return BAD_STATE;
 #endif
     return 0;
 }
@@ -252,7 +259,7 @@ static struct served after_turn_beyond(struct depot *d, uint32_t want)
     struct record *record = &d->record;
     (void)record, (void)want;
 #ifdef TURN_BEYOND_NAMES_BAY
-    return (struct served){broken_search(0, want), BAD_RECORD};
+    return (struct served){broken_search(0, want), BAD_STATE};
 #elif defined TURN_BEYOND_EARNS_21
     return (struct served){BAYS, NO_BAY};
 #elif defined TURN_BEYOND_NOT_REPORTED
@@ -266,11 +273,11 @@ static struct served after_turn_beyond(struct depot *d, uint32_t want)
 #elif defined TURN_BEYOND_MOVES
     record->turn = (record->turn + 1) % 256;
 #elif defined TURN_BEYOND_COUNTS
-    record->state[0].count++, record->used++;
+    record->state[0].count++;
 #elif defined TURN_BEYOND_CLEARS_RECORD
     memset(record, 0, sizeof *record);
 #endif
-    return (struct served){BAYS, BAD_RECORD};
+    return (struct served){BAYS, BAD_STATE};
 }
 
 // What is tested before a bay is looked for, though it should be served and refused.
@@ -279,8 +286,8 @@ static uint32_t refused_before_search(struct depot *d)
     (void)d;
 #ifdef NET_BEFORE_THE_SEARCH
     if (net_is_bad(d)) return BAD_NET;
-#elif defined RECORD_BEFORE_THE_SEARCH
-    if (!net_is_bad(d) && record_is_bad(&d->circuit.net, &d->record)) return BAD_RECORD;
+#elif defined STATES_BEFORE_THE_SEARCH
+    if (some_state_is_bad(d)) return BAD_STATE;
 #elif defined ENDS_BEFORE_THE_SEARCH
     if (broken_refusal(d, 0) == BAD_ENDS) return BAD_ENDS;
 #elif defined ALLOWANCE_BEFORE_THE_SEARCH

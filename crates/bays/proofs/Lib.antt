@@ -3,7 +3,10 @@ pub mod Records
 pub mod Refusals
 pub mod Turns
 pub mod Fair
+pub mod Alone
+pub mod Free
 pub mod Apart
+pub mod Allowance
 pub mod Kept
 -- The promises, proved, and instances of them.
 pub mod Theorems

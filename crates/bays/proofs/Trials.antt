@@ -1,15 +1,16 @@
--- Bays worked out: two bays of document 01's trial net in turn, of which one stalls, with a refused step between them; a bay that uses the whole allowance and stops another one;
--- two bays of a net with a merge, which choose differently; and bays that take turns by `next`: all four, for which the last one waits for the fourth call, and three, of which
--- one is refused.
+-- Bays worked out: two bays of document 01's trial net in turn, of which one stalls, with a refused step between them; a bay that uses all its cycles, and hinders no other; a bay
+-- beside one that is spoilt, and beside one that is stepped on another net; two bays of a net with a merge, which choose differently; and bays that take turns by `next`: all four, for
+-- which the last one waits for the fourth call, and three, of which one is refused.
 -- Assumes nothing.
-use Prim.Native.Nat.{ℕ, zero, suc, _+_, _%_, _<_}
+use Prim.Native.Nat.{ℕ, zero, suc, _+_, _%_, _≤_, _<_}
 use mathlib.Core.Path.{_≡_, refl, sym, ap, ap₂, _∙_, subst}
-use mathlib.Core.Bool.{true, false}
-use mathlib.Core.List.{List, [], _∷_, IsPrefix, List·Memᴰ, List·Memᴰ·head, List·Memᴰ·tail}
+use mathlib.Core.Bool.{Bool, true, false, cond}
+use mathlib.Core.List.{List, [], _∷_, _++_, IsPrefix, List·Memᴰ, List·Memᴰ·head, List·Memᴰ·tail}
 use native.Mathlib.Omega.{arith}
-use borrow.Author.Tests.{le-leb}
+use borrow.Author.Tests.{le-leb, lt-leb}
 use lib.Dec.{eqb}
 use lib.ListN.{length, take, replicate, length-replicate}
+use lib.Seq.{take-all}
 use Rattle.blocks.specs.Folds.{allBelow, countBelow, lowest, bit, bits}
 use Rattle.blocks.specs.Ports.{portsOf}
 use Rattle.blocks.specs.Words.{operate}
@@ -22,27 +23,46 @@ use Rattle.cycles.specs.Streams.{endsFit}
 use Rattle.cycles.specs.Cycle.{signals}
 use Rattle.cycles.specs.State.{tab, shapeOk}
 use Rattle.cycles.specs.Step.{refusalBy, stepBy}
+use Rattle.cycles.specs.declared.State.{State}
+use Rattle.cycles.specs.declared.Stepped.{Stepped}
 use Rattle.queue.specs.Machine.{putBy}
 use Rattle.queue.specs.Delivered.{delivered, choices}
 use Rattle.queue.specs.Claims.{Comparable}
 use Rattle.queue.proofs.Trial.{line-run}
 use Rattle.handshake.proofs.Tables.{merging}
 use Rattle.handshake.proofs.Chosen.{merging-run}
+use Rattle.sim.specs.Calls.{stepOf}
 use Rattle.claims.specs.Promised.{deliveredOf, choicesOf}
+use Rattle.claims.proofs.Theorems.{earns-12, refusal-is}
 use Rattle.claims.proofs.Trials.{as-accepted, as-chosen, line-in, merging-in}
 use Rattle.bays.specs.Calls.{stateAt, refusalBay, refusedBay, freshBays, stepBay, firstWanting, noBay, withTurn, nextBay}
-use Rattle.bays.specs.Promised.{Call, step, next, callsFrom, callsOf, answer, recordAfter, bayDelivered, bayChoices, ownOf, CallOn, on, named, Wants}
+use Rattle.bays.specs.Promised.{Call, step, next, bayOf, masksOf, callsFrom, callsOf, answer, recordAfter, bayDelivered, bayChoices, ownOf}
+use Rattle.bays.specs.Promised.{CallOn, on, answersTo, aloneStep, named, Wants, saidIn}
 use Rattle.bays.specs.declared.Bays.{Bays}
+use Rattle.bays.specs.declared.BayStepped.{BayStepped}
 use Rattle.bays.specs.declared.Turned.{Turned}
-use Rattle.bays.proofs.Records.{counts-four}
-use Rattle.bays.proofs.Kept.{fresh-turn, refusal-in}
-use Rattle.bays.proofs.Theorems.{bays-apart, own-choices, used-is-sum, count-is-steps, refused-by-use, none-refused, guaranteed-bays, same-choices-bays}
-use Rattle.bays.proofs.Theorems.{good-after, next-is-step, served-in-four}
+use Rattle.bays.proofs.Refusals.{bay-beyond}
+use Rattle.bays.proofs.Allowance.{refusal-in}
+use Rattle.bays.proofs.Kept.{fresh-turn}
+use Rattle.bays.proofs.Theorems.{bay-alone, bays-free, bays-apart, own-choices, shape-kept-bays, turn-kept, four-kept, count-is-steps, refused-by-count, own-allowance}
+use Rattle.bays.proofs.Theorems.{next-is-step, served-in-four, guaranteed-bays, same-choices-bays, said-among, guaranteed-among}
 
--- what a bay delivers, and chooses, in fewer calls than the allowance has cycles: what the steps asked of it do
+-- no bay has more calls than there are
+calls-few : (net : Net) (words ends : List ℕ) (r : Bays) (ms : List Call) (b : ℕ) → length (callsFrom net words ends r ms b) ≤ length ms
+calls-few net words ends r [] b = omega arith
+calls-few net words ends r (m ∷ ms) b =
+    by (eqb (bayOf net words ends r m) b) (callsFrom net words ends (answer net words ends r m .bays) ms b) (calls-few net words ends (answer net words ends r m .bays) ms b)
+  where
+    by : (t : Bool) (l : List (ℕ × ℕ)) → length l ≤ length ms → length (cond t (masksOf net words ends r m ∷ []) [] ++ l) ≤ suc (length ms)
+    by true l h = omega arith
+    by false l h = omega arith
+
+-- what a bay delivers, and chooses, in fewer calls than it has cycles: what the steps asked of it do
 module _ (net : Net) (words ends : List ℕ) (acc : accepted net ≡ true) (fit : endsFit net words ends ≡ true) (calls : List Call) (few : length calls < 1048577) (b : ℕ) (h : b < 4) where
   all-own : ownOf net words ends calls b ≡ callsOf net words ends calls b
-  all-own = none-refused net words ends acc fit calls (omega arith) b h
+  all-own =
+      own-allowance net words ends acc fit calls b h
+      ∙ take-all 1048576 (callsOf net words ends calls b) (omega (arith, calls-few net words ends (freshBays net .bays) calls b))
 
   delivers : (c : ℕ) → bayDelivered net words ends calls b c ≡ delivered true net words ends (callsOf net words ends calls b) c
   delivers c =
@@ -86,6 +106,14 @@ stalled-run : (delivered true line (1 ∷ 2 ∷ 3 ∷ []) (3 ∷ []) (wait ∷ w
 unfolding stepBy refusalBy shapeOk endsFit tab signals placeOf allBelow countBelow kindCount portsOf ins outs onSide bit operate
 stalled-run = (refl, refl)
 
+-- what two steps deliver at the sink, and two for which it is not ready
+abbrev alone : List (ℕ × ℕ) → List ℕ
+alone masks = delivered true line (1 ∷ 2 ∷ 3 ∷ []) (3 ∷ []) masks 2
+
+waiting-run : (alone (all ∷ all ∷ []) ≡ 6 ∷ []) × (alone (wait ∷ wait ∷ []) ≡ [])
+unfolding stepBy refusalBy shapeOk endsFit tab signals placeOf allBelow countBelow kindCount portsOf ins outs onSide bit operate
+waiting-run = (refl, refl)
+
 -- bay 0 delivers what it would deliver alone, and bay 1 a beginning of it
 pub turns-deliver : (turnsDeliver 0 2 ≡ 6 ∷ 7 ∷ 8 ∷ []) × (turnsDeliver 1 2 ≡ 6 ∷ []) × (turnsDeliver 1 0 ≡ 1 ∷ 2 ∷ []) × (turnsDeliver 2 0 ≡ [])
 turns-deliver =
@@ -99,23 +127,20 @@ turns-same =
 
 -- the third step is refused
 pub turns-refused : answer line (1 ∷ 2 ∷ 3 ∷ []) (3 ∷ []) (recordAfter line (1 ∷ 2 ∷ 3 ∷ []) (3 ∷ []) begun) (step 4 all) .refusal ≡ 21
-turns-refused = refused-by-use line (1 ∷ 2 ∷ 3 ∷ []) (3 ∷ []) begun 4 all
+turns-refused =
+    ap (λ (a : BayStepped). a .refusal)
+    (bay-beyond line (recordAfter line (1 ∷ 2 ∷ 3 ∷ []) (3 ∷ []) begun) 4 (1 ∷ 2 ∷ 3 ∷ []) (3 ∷ []) (all .0) (all .1) (omega arith))
 
--- and is not counted: of ten steps nine are used
-pub turns-used : recordAfter line (1 ∷ 2 ∷ 3 ∷ []) (3 ∷ []) turns .used ≡ 9
-turns-used =
+-- and counted in no bay: of ten steps bay 0 has made six and bay 1 three
+abbrev turnsCount : ℕ → ℕ
+turnsCount b = stateAt (recordAfter line (1 ∷ 2 ∷ 3 ∷ []) (3 ∷ []) turns) b .count
+
+pub turns-counted : (turnsCount 0 ≡ 6) × (turnsCount 1 ≡ 3) × (turnsCount 2 ≡ 0) × (turnsCount 3 ≡ 0)
+turns-counted =
     let count = counted line (1 ∷ 2 ∷ 3 ∷ []) (3 ∷ []) (line-in .0) line-fits turns (omega arith) in
-    omega (
-      arith,
-      used-is-sum line (1 ∷ 2 ∷ 3 ∷ []) (3 ∷ []) turns,
-      counts-four (recordAfter line (1 ∷ 2 ∷ 3 ∷ []) (3 ∷ []) turns),
-      count 0 (omega arith),
-      count 1 (omega arith),
-      count 2 (omega arith),
-      count 3 (omega arith),
-    )
+    (count 0 (omega arith), count 1 (omega arith), count 2 (omega arith), count 3 (omega arith))
 
--- ## One bay that uses the whole allowance
+-- ## One bay that uses all its cycles
 
 module _ (net : Net) (words ends : List ℕ) (masks : ℕ × ℕ) where
   -- the record after a step of bay 0
@@ -134,28 +159,76 @@ module _ (net : Net) (words ends : List ℕ) (acc : accepted net ≡ true) (fit 
   abbrev busy : List Call
   busy = replicate n (step 0 masks)
 
-  busy-used : recordAfter net words ends busy .used ≡ n
-  busy-used =
-      let count = counted net words ends acc fit busy (omega (arith, length-replicate n (step 0 masks))) in
-      let none : (b : ℕ) → eqb 0 b ≡ false → length (callsOf net words ends busy b) ≡ 0 =
-      λ b e. ap (λ (l : List (ℕ × ℕ)). length l) (no-calls net words ends masks n (freshBays net .bays) b e) in
-      omega (
-        arith,
-        used-is-sum net words ends busy,
-        counts-four (recordAfter net words ends busy),
-        count 0 (omega arith),
-        count 1 (omega arith),
-        count 2 (omega arith),
-        count 3 (omega arith),
-        busy-calls net words ends masks n (freshBays net .bays),
-        none 1 refl,
-        none 2 refl,
-        none 3 refl,
-      )
+  abbrev used : ℕ → ℕ
+  used b = stateAt (recordAfter net words ends busy) b .count
 
-  -- 1,048,576 steps of bay 0, and the first step of bay 1 is refused
-  pub busy-stops : (first : ℕ × ℕ) → answer net words ends (recordAfter net words ends busy) (step 1 first) .refusal ≡ 16
-  busy-stops first = refused-by-use net words ends busy 1 first ∙ rw (acc, fit, le-leb 1048576 (recordAfter net words ends busy .used) (omega (arith, busy-used)))
+  busy-used : (b : ℕ) → b < 4 → used b ≡ length (callsOf net words ends busy b)
+  busy-used = counted net words ends acc fit busy (omega (arith, length-replicate n (step 0 masks)))
+
+  -- 1,048,576 steps of bay 0: its next step is refused,
+  pub busy-stops : (first : ℕ × ℕ) → answer net words ends (recordAfter net words ends busy) (step 0 first) .refusal ≡ 16
+  busy-stops first =
+      refused-by-count net words ends busy (step 0 first) 0 (omega arith) refl
+      ∙ rw (acc, fit, le-leb 1048576 (used 0) (omega (arith, busy-used 0 (omega arith), busy-calls net words ends masks n (freshBays net .bays))))
+
+  -- and that of every other bay is not
+  pub busy-hinders-none : (b : ℕ) → b < 4 → eqb 0 b ≡ false → (first : ℕ × ℕ) → answer net words ends (recordAfter net words ends busy) (step b first) .refusal ≡ 0
+  busy-hinders-none b h other first =
+      let none : length (callsOf net words ends busy b) ≡ 0 = ap (λ (l : List (ℕ × ℕ)). length l) (no-calls net words ends masks n (freshBays net .bays) b other) in
+      refused-by-count net words ends busy (step b first) b h refl ∙ rw (acc, fit, lt-leb 1048576 (used b) (omega (arith, busy-used b h, none)))
+
+-- ## A bay beside one that is spoilt
+
+-- the turn is at bay 0; bay 1 has a count above the limit
+abbrev beside : State → State → Bays
+beside s bad = record { states = s ∷ bad ∷ s ∷ s ∷ []; turn = 0 }
+
+module _ (net : Net) (words ends : List ℕ) (offer ready : ℕ) (s bad : State) where
+  -- bay 0 by `next` and by `step_bay`; between them bay 1 on any net, over any words and ends
+  abbrev among : Net → List ℕ → List ℕ → ℕ × ℕ → List CallOn
+  among other words′ ends′ masks =
+      on net words ends (next (offer ∷ ready ∷ []) 15) ∷ on other words′ ends′ (step 1 masks) ∷ on net words ends (step 0 (offer, ready)) ∷ []
+
+  -- bay 0 alone, from a record in which no bay is spoilt, and the turn is another
+  abbrev alone0 : List CallOn
+  alone0 = on net words ends (step 0 (offer, ready)) ∷ on net words ends (step 0 (offer, ready)) ∷ []
+
+  -- bay 0 is answered the same
+  pub spoilt-beside : (other : Net) (words′ ends′ : List ℕ) (masks : ℕ × ℕ)
+      → answersTo 0 (beside s bad) (among other words′ ends′ masks) ≡ answersTo 0 (withTurn 3 (beside s s)) alone0
+  unfolding nextBay firstWanting lowest bit
+  spoilt-beside other words′ ends′ masks =
+      bays-free 0 (omega arith) (beside s bad) (withTurn 3 (beside s s)) (record { four = refl; four′ = refl; state = refl; beyond = refl }) (among other words′ ends′ masks) alone0 refl .0
+
+  -- and bay 1 earns 13
+  pub spoilt-13 : accepted net ≡ true → bad .count ≡ 1048577 → answer net words ends (beside s bad) (step 1 (offer, ready)) .refusal ≡ 13
+  unfolding refusalBy shapeOk
+  spoilt-13 acc e =
+      let seen = ap (λ (t : Stepped). t .refusal) (bay-alone (beside s bad) refl 1 (omega arith) (on net words ends (step 1 (offer, ready))) refl) in
+      let alone : aloneStep 0 bad (net, record { words = words; ends = ends; offer = offer; ready = ready }) .refusal ≡ stepOf net bad words ends offer ready .refusal = rw acc in
+      let number : stepOf net bad words ends offer ready .refusal ≡ 13 = sym (refusal-is net bad words ends offer ready) ∙ rw (acc, e) in
+      seen ∙ alone ∙ number
+
+-- ## A bay of document 01's net, and between its steps one of bay 1 on any net, over any words and ends
+
+module _ (other : Net) (words ends : List ℕ) (masks : ℕ × ℕ) where
+  abbrev between : List CallOn
+  between = on line (1 ∷ 2 ∷ 3 ∷ []) (3 ∷ []) (step 0 all) ∷ on other words ends (step 1 masks) ∷ on line (1 ∷ 2 ∷ 3 ∷ []) (3 ∷ []) (step 0 all) ∷ []
+
+  abbrev betweenSays : ℕ → List ℕ
+  betweenSays = saidIn (answersTo 0 (freshBays line .bays) between)
+
+  -- bay 0 delivers what its two steps do
+  pub between-deliver : betweenSays 2 ≡ 6 ∷ []
+  between-deliver =
+      said-among line (1 ∷ 2 ∷ 3 ∷ []) (3 ∷ []) between 0 (omega arith) (all ∷ all ∷ []) refl 2
+      ∙ as-accepted line (line-in .0) (1 ∷ 2 ∷ 3 ∷ []) (3 ∷ []) (all ∷ all ∷ []) 2 ∙ waiting-run .0
+
+  -- and keeps the guarantee
+  pub between-guaranteed : (F : List ℕ) × ((x : ℕ) → List·Memᴰ x F → x < 4)
+      × ((c : ℕ) → c < 3
+      → IsPrefix (betweenSays c) (putBy line (1 ∷ 2 ∷ 3 ∷ []) (3 ∷ []) (choicesOf line (1 ∷ 2 ∷ 3 ∷ []) (3 ∷ []) (all ∷ all ∷ [])) F c))
+  between-guaranteed = guaranteed-among line (1 ∷ 2 ∷ 3 ∷ []) (3 ∷ []) (line-in .0) between 0 (omega arith) (all ∷ all ∷ []) refl
 
 -- ## Two sources, a merge of them, and a sink for each of its outputs
 
@@ -218,13 +291,6 @@ unfolding freshBays nextBay firstWanting lowest bit
 panel-calls = (refl, refl, refl, refl)
 
 -- and makes them as it would alone: bays 0 and 2 deliver the same, and bay 1 waits
-abbrev alone : List (ℕ × ℕ) → List ℕ
-alone masks = delivered true line (1 ∷ 2 ∷ 3 ∷ []) (3 ∷ []) masks 2
-
-waiting-run : (alone (all ∷ all ∷ []) ≡ 6 ∷ []) × (alone (wait ∷ wait ∷ []) ≡ [])
-unfolding stepBy refusalBy shapeOk endsFit tab signals placeOf allBelow countBelow kindCount portsOf ins outs onSide bit operate
-waiting-run = (refl, refl)
-
 abbrev panelDeliver : ℕ → List ℕ
 panelDeliver b = bayDelivered line (1 ∷ 2 ∷ 3 ∷ []) (3 ∷ []) panel b 2
 
@@ -252,9 +318,9 @@ unfolding endsFit kindCount countBelow
 line-unfit = refl
 
 second-number : second .step .refusal ≡ 14
-unfolding freshBays nextBay firstWanting lowest bit
 second-number =
-    refusal-in line (1 ∷ 2 ∷ 3 ∷ []) (4 ∷ []) once (omega arith) (λ a. good-after line (1 ∷ 2 ∷ 3 ∷ []) (3 ∷ []) a (next three 7 ∷ [])) 1 wait
+    refusal-in line (1 ∷ 2 ∷ 3 ∷ []) (4 ∷ []) 1 (omega arith) once (four-kept line (1 ∷ 2 ∷ 3 ∷ []) (3 ∷ []) (next three 7 ∷ [])) (turn-kept line (1 ∷ 2 ∷ 3 ∷ []) (3 ∷ []) (next three 7 ∷ []))
+    (λ acc. shape-kept-bays line (1 ∷ 2 ∷ 3 ∷ []) (3 ∷ []) acc (next three 7 ∷ []) 1 (omega arith)) (next three 7) second-bay
     ∙ rw (line-in .0, line-unfit)
 
 pub second-refused : second .step ≡ refusedBay 14 (withTurn 2 once)
@@ -267,7 +333,7 @@ pub lost-turn : (net : Net) (r : Bays) (words ends masks : List ℕ) (offer read
     → (nextBay net (withTurn 7 r) words ends masks 1 ≡ noBay 13 (withTurn 7 r)) × (stepBay net (withTurn 7 r) 0 words ends offer ready .refusal ≡ 12)
     × (nextBay net (withTurn 7 r) words ends masks 16 ≡ noBay 0 (withTurn 7 r))
 unfolding nextBay stepBay refusalBay
-lost-turn net r words ends masks offer ready bad = (refl, rw bad, refl)
+lost-turn net r words ends masks offer ready bad = (refl, rw (earns-12 net .1 (stateAt r 0) words ends offer ready .1 bad), refl)
 
 -- a bay among four calls of `next` on other nets and streams, with a step between them
 abbrev mixed : Net → List CallOn

@@ -1,4 +1,4 @@
--- A mask by its bits; the bay that `next` chooses, and its three answers; what holds of a record after a call.
+-- A mask by its bits; the bay that `next` chooses, and its three answers; the turn after a call.
 -- Assumes nothing.
 use Prim.Native.Nat.{ℕ, zero, suc, _+_, _-_, _/_, _%_, _^_, _≤_, _<_}
 use mathlib.Core.Path.{_≡_, refl, sym, ap, _∙_, subst}
@@ -20,7 +20,7 @@ use Rattle.blocks.proofs.Options.{test}
 use Rattle.blocks.proofs.Local.{lowest-below}
 use Rattle.nets.specs.declared.Net.{Net}
 use Rattle.cycles.specs.declared.Stepped.{Stepped}
-use Rattle.bays.specs.Calls.{stepBay, asked, wantsAt, bayNo, firstWanting, noBay, withTurn, masksAt, serveNext, nextBay}
+use Rattle.bays.specs.Calls.{stepBay, asked, wantsAt, bayNo, firstWanting, noBay, serveNext, nextBay}
 use Rattle.bays.specs.Promised.{Call, step, next, answer}
 use Rattle.bays.specs.declared.Bays.{Bays}
 use Rattle.bays.specs.declared.BayStepped.{BayStepped}
@@ -111,32 +111,31 @@ module _ (net : Net) (r : Bays) (words ends masks : List ℕ) (want : ℕ) where
   next-serves n h k e = rw (ne-eqb (want % 16) 0 n, lt-leb 4 (r .turn) h, sym e)
 
   -- so what holds of an answer that names no bay, and of one that serves a bay, holds of every answer
-  pub next-cases : (C : Turned → Type 0) → C (noBay 0 r) → (4 ≤ r .turn → C (noBay 13 r)) → ((k : ℕ) → k < 4 → C (serveNext net r words ends masks k)) → C (nextBay net r words ends masks want)
+  pub next-cases : (C : Turned → Type 0) → C (noBay 0 r) → (4 ≤ r .turn → C (noBay 13 r))
+      → (r .turn < 4 → (k : ℕ) → k < 4 → C (serveNext net r words ends masks k)) → C (nextBay net r words ends masks want)
   next-cases C nobody beyond serves =
       test (eqb (want % 16) 0) (λ q. subst C (next-none (eqb-true (want % 16) 0 q)) nobody)
       (λ q. let n : want % 16 ≢ 0 = eqb-false (want % 16) 0 q in
       test (leb 4 (r .turn)) (λ t. let h : 4 ≤ r .turn = leb-true 4 (r .turn) t in subst C (next-beyond n h) (beyond h))
       (λ t. let h : r .turn < 4 = leb-false 4 (r .turn) t in
-      subst C (next-serves n h (firstWanting (r .turn) want) refl) (serves (firstWanting (r .turn) want) (wanting-below (r .turn) want h n))))
+      subst C (next-serves n h (firstWanting (r .turn) want) refl) (serves h (firstWanting (r .turn) want) (wanting-below (r .turn) want h n))))
 
--- ## The record after a call
+-- ## The turn after a call
 
 pub step-keeps : (net : Net) (r : Bays) (k : ℕ) (words ends : List ℕ) (offer ready : ℕ) → stepBay net r k words ends offer ready .bays .turn ≡ r .turn
 step-keeps net r k words ends offer ready = by (bay-answer net r k words ends offer ready)
   where
-    by : {t : Stepped} {a : BayStepped} → Answered net r k t a → a .bays .turn ≡ r .turn
+    by : {t : Stepped} {a : BayStepped} → Answered r k t a → a .bays .turn ≡ r .turn
     by (inl n) = ap (λ (a : BayStepped). a .bays .turn) (n .is)
     by (inr s) = ap (λ (a : BayStepped). a .bays .turn) (s .is)
 
 module _ (net : Net) (words ends : List ℕ) where
-  -- what holds of a record, after every step of a bay, and whatever the turn, holds after every call
-  pub after-call : (C : Bays → Type 0) → ((turn : ℕ) (q : Bays) → C q → C (withTurn turn q)) → (r : Bays) → C r
-      → ((k : ℕ) (masks : ℕ × ℕ) → C (answer net words ends r (step k masks) .bays)) → (m : Call) → C (answer net words ends r m .bays)
-  after-call C turned r holds steps (step k masks) = steps k masks
-  after-call C turned r holds steps (next masks want) =
-      next-cases net r words ends masks want (λ t. C (t .step .bays)) holds (λ h. holds) (λ k h. turned ((k + 1) % 4) _ (steps k (masksAt masks k)))
+  -- a turn beyond the four bays stays there, and one within them within
+  pub turn-side : (r : Bays) (m : Call) → leb 4 (answer net words ends r m .bays .turn) ≡ leb 4 (r .turn)
+  turn-side r (step k masks) = ap (leb 4) (step-keeps net r k words ends (masks .0) (masks .1))
+  turn-side r (next masks want) =
+      next-cases net r words ends masks want (λ t. leb 4 (t .step .bays .turn) ≡ leb 4 (r .turn)) refl (λ l. refl)
+      (λ h k l. lt-leb 4 ((k + 1) % 4) (omega arith) ∙ sym (lt-leb 4 (r .turn) h))
 
-  -- the turn stays within the four bays
   pub turn-in : (r : Bays) (m : Call) → r .turn < 4 → answer net words ends r m .bays .turn < 4
-  turn-in r (step k masks) h = omega (arith, step-keeps net r k words ends (masks .0) (masks .1))
-  turn-in r (next masks want) h = next-cases net r words ends masks want (λ t. t .step .bays .turn < 4) h (λ l. h) (λ k l. omega arith)
+  turn-in r m h = leb-false 4 _ (turn-side r m ∙ lt-leb 4 (r .turn) h)

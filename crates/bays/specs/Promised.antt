@@ -1,5 +1,6 @@
--- The promises over lists of calls on one net and one set of streams, from a fresh record (requests 5 and 6), and on whose turn it is, written with `freshBays`, `stepBay` and
--- `nextBay`: the contracts of `fresh_bays`, `step_bay` and `next` say that these calls answer exactly so. proofs/Theorems.antt proves each one.
+-- The promises over lists of calls: from any record, what decides a bay's answers and whose turn it is; and from a fresh record, on one net and one set of streams, the words of
+-- each bay (requests 5, 6 and 8). They are written with `freshBays`, `stepBay` and `nextBay`: the contracts of `fresh_bays`, `step_bay` and `next` say that these calls answer exactly
+-- so. proofs/Theorems.antt proves each one.
 -- Assumes nothing.
 use Prim.Native.Nat.{ℕ, _+_, _%_, _≤_, _<_}
 use mathlib.Core.Path.{_≡_}
@@ -13,15 +14,16 @@ use Rattle.nets.specs.Net.{blockAt}
 use Rattle.nets.specs.declared.Net.{Net}
 use Rattle.nets.proofs.Decided.{accepted}
 use Rattle.cycles.specs.Streams.{endsFit}
-use Rattle.cycles.specs.State.{regsOf}
+use Rattle.cycles.specs.State.{regsOf, shapeOk}
+use Rattle.cycles.specs.Step.{refusedStep}
 use Rattle.cycles.specs.declared.State.{State}
 use Rattle.cycles.specs.declared.Stepped.{Stepped}
 use Rattle.queue.specs.Machine.{putBy, put}
-use Rattle.queue.specs.Delivered.{marked, report, pending}
+use Rattle.queue.specs.Delivered.{Input, marked, over, report, pending}
 use Rattle.queue.specs.Claims.{MergeFree, Comparable}
 use Rattle.sim.specs.Calls.{stepOf}
-use Rattle.claims.specs.Promised.{deliveredOf, endStateOf}
-use Rattle.bays.specs.Calls.{stateAt, counts, recordOk, refusedBay, servedBay, freshBays, stepBay, masksAt, withTurn, serveNext, nextBay}
+use Rattle.claims.specs.Promised.{stepIn, deliveredOf, endStateOf, choicesOf}
+use Rattle.bays.specs.Calls.{stateAt, refusedBay, servedBay, freshBays, stepBay, masksAt, withTurn, serveNext, nextBay}
 use Rattle.bays.specs.declared.Bays.{Bays}
 use Rattle.bays.specs.declared.BayStepped.{BayStepped}
 use Rattle.bays.specs.declared.Turned.{Turned}
@@ -91,10 +93,38 @@ module _ (net : Net) (words ends : List ℕ) where
   abbrev pub bayChoices : List Call → ℕ → ℕ → List ℕ
   bayChoices ms b x = bayDelivered ms b (report net x) ++ pending (regsOf (stateAt (recordAfter ms) b) x)
 
+-- a call with a net, words and ends of its own
+pub data CallOn : Type 0 where
+  on : Net → List ℕ → List ℕ → Call → CallOn
+
+-- the bay that it is for on record r, what it gives to that bay, and its answer
+abbrev pub bayOn : Bays → CallOn → ℕ
+bayOn r (on net words ends m) = bayOf net words ends r m
+
+abbrev pub givenOn : Bays → CallOn → Net × Input
+givenOn r (on net words ends m) = (net, record { words = words; ends = ends; offer = masksOf net words ends r m .0; ready = masksOf net words ends r m .1 })
+
+abbrev pub answerOn : Bays → CallOn → BayStepped
+answerOn r (on net words ends m) = answer net words ends r m
+
+-- Such calls one after another from record r, refused ones included: the record that the last one returns; what is given to bay b, call by call; and the answers that it sees.
+
+abbrev pub endRecord : Bays → List CallOn → Bays
+endRecord r [] = r
+endRecord r (m ∷ ms) = endRecord (answerOn r m .bays) ms
+
+abbrev pub givenTo : ℕ → Bays → List CallOn → List (Net × Input)
+givenTo b r [] = []
+givenTo b r (m ∷ ms) = cond (eqb (bayOn r m) b) (givenOn r m ∷ []) [] ++ givenTo b (answerOn r m .bays) ms
+
+abbrev pub answersTo : ℕ → Bays → List CallOn → List Stepped
+answersTo b r [] = []
+answersTo b r (m ∷ ms) = cond (eqb (bayOn r m) b) (seenBy b (answerOn r m) ∷ []) [] ++ answersTo b (answerOn r m .bays) ms
+
 -- ## One call
 
 -- what an answer a for bay k is, where t is the step of the bay's own state: refused, it is the record handed in and delivers nothing; else it is that step, which is not refused
--- either, moves the bay's state alone and uses one cycle more
+-- either, and moves the bay's state alone
 pub record IsStep (r : Bays) (k : ℕ) (t : Stepped) (a : BayStepped) : Type 0 where
   pub refused : a .refusal ≢ 0 → a ≡ refusedBay (a .refusal) r
   pub worked : a .refusal ≡ 0 → t .refusal ≡ 0
@@ -105,6 +135,41 @@ abbrev pub BayIsStep : Type 0
 BayIsStep =
     (net : Net) (r : Bays) (k : ℕ) (words ends : List ℕ) (offer ready : ℕ)
     → IsStep r k (stepOf net (stateAt r k) words ends offer ready) (stepBay net r k words ends offer ready)
+
+-- ## What decides a bay's answers
+
+-- what a bay in state s is answered: `step` of that state, unless an accepted net meets a turn beyond the four bays
+abbrev pub aloneStep : ℕ → State → Net × Input → Stepped
+aloneStep turn s given = cond (accepted (given .0) && leb 4 turn) (refusedStep 13 s) (stepIn (given .0) s (given .1))
+
+-- "Refusals 13 and 16 look at the calling bay's state alone, and 13 at the turn": from any record of four states, by `step_bay` or by `next`.
+abbrev pub BayAlone : Type 0
+BayAlone =
+    (r : Bays) → length (r .states) ≡ 4 → (b : ℕ) → b < 4 → (m : CallOn) → bayOn r m ≡ b
+    → seenBy b (answerOn r m) ≡ aloneStep (r .turn) (stateAt r b) (givenOn r m)
+
+-- two records of four states that bay b cannot tell apart: its own state is the same, and the turns are both within the four bays or both beyond them
+pub record Alike (b : ℕ) (r q : Bays) : Type 0 where
+  pub four : length (r .states) ≡ 4
+  pub four′ : length (q .states) ≡ 4
+  pub state : stateAt r b ≡ stateAt q b
+  pub beyond : leb 4 (r .turn) ≡ leb 4 (q .turn)
+
+-- "nothing that other bays do alters any answer of a bay, except whose turn the panel call picks": over any calls on any nets and streams, two lists that give a bay the same, call
+-- by call, answer it the same, call by call: refusals, its states, marks and words; and leave records that it cannot tell apart either. A call of `next` gives to the bay that it names.
+abbrev pub BaysFree : Type 0
+BaysFree =
+    (b : ℕ) → b < 4 → (r q : Bays) → Alike b r q → (calls others : List CallOn) → givenTo b r calls ≡ givenTo b q others
+    → (answersTo b r calls ≡ answersTo b q others) × Alike b (endRecord r calls) (endRecord q others)
+
+-- the calls of `step_bay` that give bay b so much, and no call for another bay
+abbrev pub stepsOf : ℕ → List (Net × Input) → List CallOn
+stepsOf b [] = []
+stepsOf b (g ∷ gs) = on (g .0) (g .1 .words) (g .1 .ends) (step b (g .1 .offer, g .1 .ready)) ∷ stepsOf b gs
+
+-- So a bay is answered as if the others' calls had not been made.
+abbrev pub OthersLeftOut : Type 0
+OthersLeftOut = (b : ℕ) → b < 4 → (r : Bays) → length (r .states) ≡ 4 → (calls : List CallOn) → answersTo b r calls ≡ answersTo b r (stepsOf b (givenTo b r calls))
 
 -- ## What decides a bay's deliveries and registers
 
@@ -125,9 +190,10 @@ BaysCarry =
 
 -- ## The record
 
--- Of an accepted net every record from a fresh one is in shape.
+-- Of an accepted net every bay's state is in shape in every record from a fresh one.
 abbrev pub ShapeKeptBays : Type 0
-ShapeKeptBays = (net : Net) (words ends : List ℕ) → accepted net ≡ true → (calls : List Call) → recordOk net (recordAfter net words ends calls) ≡ true
+ShapeKeptBays =
+    (net : Net) (words ends : List ℕ) → accepted net ≡ true → (calls : List Call) (b : ℕ) → b < 4 → shapeOk net (stateAt (recordAfter net words ends calls) b) ≡ true
 
 -- The turn stays within the four bays.
 abbrev pub TurnKept : Type 0
@@ -137,37 +203,25 @@ TurnKept = (net : Net) (words ends : List ℕ) (calls : List Call) → recordAft
 abbrev pub Never13Bays : Type 0
 Never13Bays = (net : Net) (words ends : List ℕ) (calls : List Call) (m : Call) → answer net words ends (recordAfter net words ends calls) m .refusal ≢ 13
 
--- The cycles used are the sum of the four counts,
-abbrev pub UsedIsSum : Type 0
-UsedIsSum = (net : Net) (words ends : List ℕ) (calls : List Call) → recordAfter net words ends calls .used ≡ counts (recordAfter net words ends calls) 4
-
--- and a bay's count is the number of its own steps that were not refused.
+-- A bay's count, "held in its state", is the number of its own steps that were not refused.
 abbrev pub CountIsSteps : Type 0
 CountIsSteps =
     (net : Net) (words ends : List ℕ) (calls : List Call) (b : ℕ) → b < 4 → stateAt (recordAfter net words ends calls) b .count ≡ length (ownOf net words ends calls b)
 
 -- ## What decides a refusal
 
--- "whether it is refused for cycles also depends on how many the others have used": after any calls a step earns 21 by the bay's number, 12 by the net, 14 by the streams, and
--- 16 exactly where all of the allowance is used. No other refusal looks at the record.
-abbrev pub RefusedByUse : Type 0
-RefusedByUse =
-    (net : Net) (words ends : List ℕ) (calls : List Call) (k : ℕ) (masks : ℕ × ℕ)
-    → answer net words ends (recordAfter net words ends calls) (step k masks) .refusal
-    ≡ cond (leb 4 k) 21 (cond (not (accepted net)) 12 (cond (not (endsFit net words ends)) 14 (cond (leb 1048576 (recordAfter net words ends calls .used)) 16 0)))
+-- After any calls from a fresh record one that is for a bay, by `step_bay` or by `next`, earns 12 by the net, 14 by the streams, and 16 exactly where that bay has used its own cycles.
+abbrev pub RefusedByCount : Type 0
+RefusedByCount =
+    (net : Net) (words ends : List ℕ) (calls : List Call) (m : Call) (b : ℕ) → b < 4 → bayOf net words ends (recordAfter net words ends calls) m ≡ b
+    → answer net words ends (recordAfter net words ends calls) m .refusal
+    ≡ cond (not (accepted net)) 12 (cond (not (endsFit net words ends)) 14 (cond (leb 1048576 (stateAt (recordAfter net words ends calls) b .count)) 16 0))
 
--- A call of `next` earns the same, unless its mask is empty.
-abbrev pub NextByUse : Type 0
-NextByUse =
-    (net : Net) (words ends : List ℕ) (calls : List Call) (masks : List ℕ) (want : ℕ)
-    → answer net words ends (recordAfter net words ends calls) (next masks want) .refusal
-    ≡ cond (eqb (want % 16) 0) 0 (cond (not (accepted net)) 12 (cond (not (endsFit net words ends)) 14 (cond (leb 1048576 (recordAfter net words ends calls .used)) 16 0)))
-
--- So as far as the allowance goes no bay hinders another: of an accepted net, over ends that fit, no step of a bay is refused, and its own steps are all that were asked of it.
-abbrev pub NoneRefused : Type 0
-NoneRefused =
-    (net : Net) (words ends : List ℕ) → accepted net ≡ true → endsFit net words ends ≡ true → (calls : List Call) → length calls ≤ 1048576
-    → (b : ℕ) → b < 4 → ownOf net words ends calls b ≡ callsOf net words ends calls b
+-- "Each bay now has its own 1,048,576": of an accepted net, over ends that fit, a bay's own steps are the first 1,048,576 that are asked of it, whatever is asked of the others.
+abbrev pub OwnAllowance : Type 0
+OwnAllowance =
+    (net : Net) (words ends : List ℕ) → accepted net ≡ true → endsFit net words ends ≡ true → (calls : List Call) (b : ℕ) → b < 4
+    → ownOf net words ends calls b ≡ take 1048576 (callsOf net words ends calls b)
 
 -- ## Whose cycle is next
 
@@ -190,10 +244,6 @@ pub record IsNext (net : Net) (r : Bays) (words ends masks : List ℕ) (t : Turn
 -- from any record
 abbrev pub NextIsStep : Type 0
 NextIsStep = (net : Net) (r : Bays) (words ends masks : List ℕ) (want : ℕ) → IsNext net r words ends masks (nextBay net r words ends masks want)
-
--- a call with a net, words and ends of its own: whose turn it is does not depend on them
-pub data CallOn : Type 0 where
-  on : Net → List ℕ → List ℕ → Call → CallOn
 
 -- the bays that the calls of `next` in a list name, from record r on: each call gets the record that the last one returned, and a step names none
 abbrev pub named : Bays → List CallOn → List ℕ
@@ -235,3 +285,21 @@ SameChoicesBays =
     (net : Net) (words ends : List ℕ) → accepted net ≡ true → (calls others : List Call) (b d : ℕ) → b < 4 → d < 4
     → ((x : ℕ) → x < net .size → blockAt net x .kind ≡ 7 → Comparable (bayChoices net words ends calls b x) (bayChoices net words ends others d x))
     → (c : ℕ) → c < net .channels → Comparable (bayDelivered net words ends calls b c) (bayDelivered net words ends others d c)
+
+-- inputs that are all given with one net; and the words that a list of answers delivers on channel c
+abbrev pub allOn : Net → List Input → List (Net × Input)
+allOn net [] = []
+allOn net (n ∷ ns) = (net, n) ∷ allOn net ns
+
+abbrev pub saidIn : List Stepped → ℕ → List ℕ
+saidIn [] c = []
+saidIn (t ∷ ts) c = marked t c ++ saidIn ts c
+
+-- And the guarantee of a bay asks nothing of the others' calls (request 8): they may be on other nets and over other streams, as long as its own are on one net and one set of streams.
+-- Its merges make the choices of these calls.
+abbrev pub GuaranteedAmong : Type 0
+GuaranteedAmong =
+    (net : Net) (words ends : List ℕ) → accepted net ≡ true → (calls : List CallOn) (b : ℕ) → b < 4
+    → (masks : List (ℕ × ℕ)) → givenTo b (freshBays net .bays) calls ≡ allOn net (over words ends masks)
+    → (F : List ℕ) × ((x : ℕ) → List·Memᴰ x F → x < net .size)
+    × ((c : ℕ) → c < net .channels → IsPrefix (saidIn (answersTo b (freshBays net .bays) calls) c) (putBy net words ends (choicesOf net words ends masks) F c))

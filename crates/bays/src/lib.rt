@@ -1,20 +1,11 @@
 // Four bays on one net and one set of streams: the calls `fresh_bays`, `step_bay` and `next`.
 ghost use mathlib.Core.Path.{_≡_};
-ghost use mathlib.Core.Bool.{true, false};
-ghost use mathlib.Core.Logic.{_↔_};
 ghost use Prim.Native.Nat.{_<_};
-ghost use Rattle.blocks.specs.Folds.{allBelow, bit};
-ghost use Rattle.nets.proofs.Decided.{accepted};
-ghost use Rattle.bays.specs.Calls.{stateAt, inShapeAt, counts, recordOk, refusalBay, refusedBay, servedBay, freshBays, stepBay};
-ghost use Rattle.bays.specs.Calls.{firstWanting, noBay, turnedTo, nextBay};
+ghost use Rattle.blocks.specs.Folds.{bit};
+ghost use Rattle.bays.specs.Calls.{refusalBay, refusedBay, servedBay, freshBays, stepBay, firstWanting, noBay, turnedTo, nextBay};
 use cycles::State;
 use cycles::Stepped;
 use nets::Net;
-use rows::checks::shape_ok;
-use rows::flat::flatten;
-
-// The cycles that all bays may use together.
-const ALLOWANCE: u32 = 1048576;
 
 // What `next` names where it serves no bay.
 const NO_BAY: u8 = 4;
@@ -22,10 +13,9 @@ const NO_BAY: u8 = 4;
 // A mask of bays is looked at below this number: its four lowest bits.
 const BAY_MASKS: u32 = 16;
 
-// The states of the four bays, and the cycles that they have used together. The turn is the number of the bay that `next` asks first: not the bay last served, but the one after it.
+// The states of the four bays, each with its own count of cycles. The turn is the number of the bay that `next` asks first: not the bay last served, but the one after it.
 pub struct Bays {
     pub states: [State; 4],
-    pub used: u32,
     pub turn: u8,
 }
 
@@ -49,96 +39,31 @@ pub struct Turned {
     pub step: BayStepped,
 }
 
-// The fresh record of a net: four fresh states, no cycle used, the turn at bay 0. Refused (12): a zero record.
+// The fresh record of a net: four fresh states, the turn at bay 0. Refused (12): a zero record.
 pub fn fresh_bays(net: Net) -> FreshBays
     ensures { λ r. ⌜ r ≡ freshBays net ⌝ }
 {
     let fresh = sim::step::fresh(net);
     let state = fresh.state;
     let states = [state; 4];
-    let bays = Bays {
-        states,
-        used: 0,
-        turn: 0,
-    };
+    let bays = Bays { states, turn: 0 };
     FreshBays {
         refusal: fresh.refusal,
         bays,
     }
 }
 
-// The four states are in shape, of an accepted net.
-fn states_ok(net: Net, bays: Bays) -> bool
-    requires { ⌜ accepted net ≡ true ⌝ }
-    ensures { λ r. ⌜ r ≡ allBelow (inShapeAt net bays) 4 ⌝ }
-{
-    let n = net.size as usize;
-    let mut rows = [0u8; 768];
-    let mut values = [0u32; 64];
-    flatten(net, n, &mut rows, &mut values);
-    let mut k: usize = 0;
-    while k < 4 {
-        let state = bays.states[k];
-        if !shape_ok(state, n, &rows) {
-            return false;
-        }
-        k += 1;
-    }
-    true
-}
-
-// The count of bay k.
-fn count_of(bays: Bays, k: usize) -> u32
-    requires { ⌜ k < 4 ⌝ }
-    ensures { λ r. ⌜ r ≡ stateAt bays k .count ⌝ }
-{
-    let state = bays.states[k];
-    state.count
-}
-
-// The sum of the four counts.
-fn sum_of_counts(bays: Bays) -> u64
-    ensures { λ r. ⌜ r ≡ counts bays 4 ⌝ }
-{
-    let first = count_of(bays, 0) as u64 + count_of(bays, 1) as u64;
-    first + count_of(bays, 2) as u64 + count_of(bays, 3) as u64
-}
-
-// The record is in shape, of an accepted net: the four states are, and the cycles used are the sum of the four counts and within the allowance.
-fn record_ok(net: Net, bays: Bays) -> bool
-    requires { ⌜ accepted net ≡ true ⌝ }
-    ensures { λ r. ⌜ r ≡ recordOk net bays ⌝ }
-{
-    if !states_ok(net, bays) {
-        return false;
-    }
-    if bays.used as u64 != sum_of_counts(bays) {
-        return false;
-    }
-    bays.used <= ALLOWANCE
-}
-
-// The refusal of one of the four bays, where `own` is that of a step of its own state.
-fn refusal_bay(net: Net, bays: Bays, own: u8) -> u8
-    requires { ⌜ (own ≡ 12) ↔ (accepted net ≡ false) ⌝ }
-    ensures { λ r. ⌜ r ≡ refusalBay net bays own ⌝ }
+// The refusal of one of the four bays, by the record's turn and by the refusal of a step of its own state: the net's 12, then the turn's 13, then all others of that step.
+fn refusal_bay(turn: u8, own: u8) -> u8
+    ensures { λ r. ⌜ r ≡ refusalBay turn own ⌝ }
 {
     if own == 12 {
         return 12;
     }
-    if 4 <= bays.turn {
+    if 4 <= turn {
         return 13;
     }
-    if !record_ok(net, bays) {
-        return 13;
-    }
-    if own != 0 {
-        return own;
-    }
-    if ALLOWANCE <= bays.used {
-        return 16;
-    }
-    0
+    own
 }
 
 // A refused step of a bay: the record handed in, nothing delivered.
@@ -153,9 +78,9 @@ fn refused_bay(refusal: u8, bays: Bays) -> BayStepped
     }
 }
 
-// The cycle of bay k: its state moves, and one cycle more is used. The turn stays.
+// The cycle of bay k: its state moves, with its count. The turn stays.
 fn served_bay(bays: Bays, k: usize, step: Stepped) -> BayStepped
-    requires { ⌜ (k < 4) × (bays .used < 1048576) ⌝ }
+    requires { ⌜ k < 4 ⌝ }
     ensures { λ r. ⌜ r ≡ servedBay bays k step ⌝ }
 {
     let mut states = bays.states;
@@ -163,7 +88,6 @@ fn served_bay(bays: Bays, k: usize, step: Stepped) -> BayStepped
     states[k] = after;
     let moved = Bays {
         states,
-        used: bays.used + 1,
         turn: bays.turn,
     };
     let delivered = step.delivered;
@@ -176,8 +100,9 @@ fn served_bay(bays: Bays, k: usize, step: Stepped) -> BayStepped
     }
 }
 
-// One cycle of a bay: the record after it, and what each channel delivered. Refused in this order: 21 (the bay's number), 12 (the net), 13 (the record, its turn too), 14 (the
-// ends), 16 (the allowance); then the record handed in comes back, and nothing is delivered. The turn stays, served or refused.
+// One cycle of a bay: the record after it, and what each channel delivered. Refused in this order: 21 (the bay's number), 12 (the net), 13 (the turn, or the bay's own state), 14
+// (the ends), 16 (the bay's own count); then the record handed in comes back, and nothing is delivered. The turn stays, served or refused. The states of the other bays are not
+// looked at.
 pub fn step_bay(
     net: Net,
     bays: Bays,
@@ -195,7 +120,7 @@ pub fn step_bay(
     let k = bay as usize;
     let state = bays.states[k];
     let step = sim::step::step(net, state, stream, ends, offer, ready);
-    let refusal = refusal_bay(net, bays, step.refusal);
+    let refusal = refusal_bay(bays.turn, step.refusal);
     if refusal != 0 {
         return refused_bay(refusal, bays);
     }
@@ -242,7 +167,6 @@ fn turned_to(bay: u8, step: BayStepped) -> Turned
     let states = before.states;
     let bays = Bays {
         states,
-        used: before.used,
         turn: (bay + 1) % 4,
     };
     let delivered = step.delivered;

@@ -1,5 +1,5 @@
-// Bays by a run. Without arguments: two bays over one net, of which one stalls; then the allowance, used up by a third one, and steps that are refused; then three bays that take turns,
-// of which one is refused.
+// Bays by a run. Without arguments: two bays over one net, of which one stalls; then a third one that uses up its cycles, and others that are refused, beside a bay that goes on; then
+// three bays that take turns, of which one is refused.
 // With a file: the calls that it lists. Its numbers have 4 bytes, most significant first: the bytes of a form, how many words, how many ends; then the form, the words, the ends; then
 // commands of three numbers each, a command and what it is given.
 ghost use mathlib.Core.Path.{_≡_};
@@ -17,14 +17,17 @@ const WORD_ROOM: usize = 256;
 
 const END_ROOM: usize = 64;
 
+// The cycles that each bay has.
+const CYCLES: u32 = 1048576;
+
 // Commands below this one are steps of the bay of that number, given offer and ready; this one makes a fresh record.
 const FRESH: u32 = 256;
-// Sets the cycles used; the net's channels.
-const SET_USED: u32 = 257;
-
-const SET_CHANNELS: u32 = 258;
+// Sets the net's channels.
+const SET_CHANNELS: u32 = 257;
 // A call of `next`, given the mask of the bays that want a cycle, and how many of the ends are lent to it at most.
-const NEXT: u32 = 259;
+const NEXT: u32 = 258;
+// Sets the turn.
+const SET_TURN: u32 = 259;
 // With a bay's number added: sets its count; given a block, its word or its marks.
 const SET_COUNT: u32 = 260;
 
@@ -33,8 +36,6 @@ const SET_WORD: u32 = 264;
 const SET_MARKS: u32 = 268;
 // With a bay's number added: sets its masks for calls of `next`, given offer and ready.
 const SET_MASKS: u32 = 272;
-// Sets the turn.
-const SET_TURN: u32 = 276;
 
 // The masks of the four bays for calls of `next`: each bay's offer, and its ready mask after it.
 struct Panel {
@@ -96,8 +97,7 @@ fn show_state(k: u64, state: State) {
 }
 
 fn show_record(bays: Bays) {
-    print_word(b"used ", bays.used);
-    print_byte(b" turn ", bays.turn);
+    print_byte(b"turn ", bays.turn);
     end_line();
     let mut k: usize = 0;
     while k < 4 {
@@ -157,17 +157,6 @@ fn with_state(bays: Bays, k: usize, state: State) -> Bays
     states[k] = state;
     Bays {
         states,
-        used: bays.used,
-        turn: bays.turn,
-    }
-}
-
-// The record with other cycles used.
-fn with_used(bays: Bays, used: u32) -> Bays {
-    let states = bays.states;
-    Bays {
-        states,
-        used,
         turn: bays.turn,
     }
 }
@@ -175,11 +164,7 @@ fn with_used(bays: Bays, used: u32) -> Bays {
 // The record with another turn.
 fn with_turn(bays: Bays, turn: u8) -> Bays {
     let states = bays.states;
-    Bays {
-        states,
-        used: bays.used,
-        turn,
-    }
+    Bays { states, turn }
 }
 
 // The record with another count of bay k.
@@ -289,9 +274,6 @@ fn obeyed(
     if op == FRESH {
         return begun(net);
     }
-    if op == SET_USED {
-        return with_used(bays, a);
-    }
     if op == NEXT {
         let masks = panel.masks;
         return turned_over(net, bays, words, ends, &masks, a, b as usize);
@@ -392,7 +374,7 @@ fn run_file(file: &[u8]) {
     run_parts(file, form_len, word_count, end_count);
 }
 
-// ---- Two bays, the allowance, and three bays in turn
+// ---- Two bays, bays that are refused beside others, and three bays in turn
 
 // The ready mask of bay 1: its second sink refuses in cycles 1 to 3.
 fn ready_in(cycle: u64) -> u32 {
@@ -416,21 +398,25 @@ fn two_bays(net: Net, words: &[u32], ends: &[u32]) -> Bays {
     bays
 }
 
-// A record in which bay 2 has used all but one of the cycles that the others left: bay 3 gets the last one, and then every bay is refused.
+// A record in which bay 2 has one cycle left: it gets that one, and then it is refused; bay 3 goes on.
 fn last_cycle(net: Net, bays: Bays, words: &[u32], ends: &[u32]) {
-    let busy = with_count(bays, 2, 1048576 - 13);
-    let near = with_used(busy, 1048575);
-    let full = stepped(net, near, 3, words, ends, 1, 3);
-    let refused = stepped(net, full, 0, words, ends, 1, 3);
-    show_record(refused);
+    let near = with_count(bays, 2, CYCLES - 1);
+    let full = stepped(net, near, 2, words, ends, 1, 3);
+    let refused = stepped(net, full, 2, words, ends, 1, 3);
+    let after = stepped(net, refused, 3, words, ends, 1, 3);
+    show_record(after);
 }
 
-// A bay that is not there; a record whose cycles used are not the sum of its counts; ends that do not fit.
+// A bay that is not there; a bay whose count is out of range, and one whose ends do not fit, each before a step of bay 3, which goes on; a turn beyond the four bays.
 fn refused_steps(net: Net, bays: Bays, words: &[u32], ends: &[u32]) {
     stepped(net, bays, 4, words, ends, 1, 3);
-    let odd = with_count(bays, 2, 1);
-    stepped(net, odd, 0, words, ends, 1, 3);
-    stepped(net, bays, 0, words, words, 1, 3);
+    let spoilt = with_count(bays, 2, CYCLES + 1);
+    stepped(net, spoilt, 2, words, ends, 1, 3);
+    let first = stepped(net, spoilt, 3, words, ends, 1, 3);
+    let same = stepped(net, first, 1, words, words, 1, 3);
+    let second = stepped(net, same, 3, words, ends, 1, 3);
+    let lost = with_turn(second, 7);
+    stepped(net, lost, 3, words, ends, 1, 3);
 }
 
 // So many calls of `next` in which bays 0, 1 and 2 want a cycle.

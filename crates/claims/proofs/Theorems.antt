@@ -235,7 +235,7 @@ shape-kept net acc =
     (subst (λ (ok : Bool). shapeOk net (freshBy ok net) ≡ true) (sym acc) (fresh-shape net (accepted-true net acc .0 .fields)), cycle-shape (accepted net) net (accepted-true net acc))
 
 module _ (net : Net) (acc : accepted net ≡ true) where
-  shape-from : (s : State) (steps : List Input) → shapeOk net s ≡ true → shapeOk net (stateFrom net s steps) ≡ true
+  pub shape-from : (s : State) (steps : List Input) → shapeOk net s ≡ true → shapeOk net (stateFrom net s steps) ≡ true
   shape-from s [] h = h
   shape-from s (n ∷ ns) h = shape-from (stepIn net s n .state) ns (shape-kept net acc .1 s (n .words) (n .ends) (n .offer) (n .ready) h)
 

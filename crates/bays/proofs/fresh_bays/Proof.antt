@@ -14,7 +14,7 @@ fresh-requires c κs = search needs
 
 -- the record of four states, each as `fresh` gives it
 abbrev four : Fresh → FreshBays
-four f = record { refusal = f .refusal; bays = record { states = replicate 4 (f .state); used = 0; turn = 0 } }
+four f = record { refusal = f .refusal; bays = record { states = replicate 4 (f .state); turn = 0 } }
 
 returns : tie.Need-returns
 unfolding freshBays

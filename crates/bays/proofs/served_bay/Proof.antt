@@ -11,11 +11,8 @@ mul-states c = search needs
 array-set-from-states : tie.Need-array-set-from-states
 array-set-from-states c = search needs
 
-add-t13 : tie.Need-add-t13
-add-t13 c = search needs
-
 returns : tie.Need-returns
 returns c = refl
 
 pub served-bay-spec : {M : Type 1} → statement M
-served-bay-spec = tie.close (tie.spec mul-states array-set-from-states add-t13 returns)
+served-bay-spec = tie.close (tie.spec mul-states array-set-from-states returns)

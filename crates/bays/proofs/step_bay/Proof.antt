@@ -1,16 +1,11 @@
 -- `bays::step_bay` meets its contract: the bay's number, the step of its own state, the refusal, the record.
 -- Assumes nothing.
-use mathlib.Core.Path.{_≡_, sym, ap, _∙_, subst}
-use mathlib.Core.Bool.{false}
-use mathlib.Core.Logic.{_↔_}
 use Prim.Native.Nat.{ℕ}
+use mathlib.Core.Path.{sym, ap, _∙_}
 use borrow.Author.Needs.{needs}
 use borrow.Author.Tests.{le-leb}
-use Rattle.nets.proofs.Decided.{accepted}
-use Rattle.cycles.specs.declared.Stepped.{Stepped}
-use Rattle.claims.proofs.Theorems.{earns-12}
-use Rattle.bays.specs.Calls.{stateAt, refusedBay, stepBay}
-use Rattle.bays.proofs.Refusals.{passes, bay-refused, bay-served}
+use Rattle.bays.specs.Calls.{refusedBay, stepBay}
+use Rattle.bays.proofs.Refusals.{bay-refused, bay-served}
 use Rattle.bays.proofs.step_bay.Statement.{statement}
 use Rattle.bays.proofs.step_bay.Tie as tie
 
@@ -31,10 +26,7 @@ step-requires : tie.Need-step-requires
 step-requires c κs = search needs
 
 refusal-bay-requires : tie.Need-refusal-bay-requires
-refusal-bay-requires c κs =
-    let given = c .before .before .before .before .before .args in
-    subst (λ (t : Stepped). (t .refusal ≡ 12) ↔ (accepted (given .net) ≡ false)) (sym (c .step .ensures))
-    (earns-12 (given .net) .1 (stateAt (given .t2) (given .bay)) (given .stream .now) (given .ends .now) (given .offer) (given .ready))
+refusal-bay-requires c κs = search needs
 
 refused-bay-requires-2 : tie.Need-refused-bay-requires-2
 refused-bay-requires-2 c κs = search needs
@@ -50,12 +42,7 @@ returns-2 c =
     (λ q. c .before .if2 .taken (number ∙ q))
 
 served-bay-requires : tie.Need-served-bay-requires
-served-bay-requires c κs =
-    let number = c .before .refusal-bay .ensures in
-    let own = c .before .before .step in
-    let at-bay = c .before .before .before .before in
-    let given = at-bay .before .before .before .args in
-    (at-bay .if1 .left, passes (given .net) (given .t2) (own .result .refusal) (sym number ∙ c .if2 .left) .room)
+served-bay-requires c κs = search needs
 
 returns-3 : tie.Need-returns-3
 returns-3 c =

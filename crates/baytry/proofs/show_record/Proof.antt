@@ -11,12 +11,6 @@ Inv-loop bays k₀ k = k ≤ 4
 abbrev μ-loop : tie.MeasureT-loop
 μ-loop bays k₀ k = 4 - k
 
-slice-aggregate-print-word : tie.Need-slice-aggregate-print-word Inv-loop μ-loop
-slice-aggregate-print-word c = search needs
-
-print-word-requires : tie.Need-print-word-requires Inv-loop μ-loop
-print-word-requires c κs = search needs
-
 slice-aggregate-print-byte : tie.Need-slice-aggregate-print-byte Inv-loop μ-loop
 slice-aggregate-print-byte c = search needs
 
@@ -56,8 +50,6 @@ show-record-spec =
     (tie.spec
     Inv-loop
     μ-loop
-    slice-aggregate-print-word
-    print-word-requires
     slice-aggregate-print-byte
     print-byte-requires
     end-line-requires
