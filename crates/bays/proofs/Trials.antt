@@ -319,9 +319,11 @@ line-unfit = refl
 
 second-number : second .step .refusal ≡ 14
 second-number =
-    refusal-in line (1 ∷ 2 ∷ 3 ∷ []) (4 ∷ []) 1 (omega arith) once (four-kept line (1 ∷ 2 ∷ 3 ∷ []) (3 ∷ []) (next three 7 ∷ [])) (turn-kept line (1 ∷ 2 ∷ 3 ∷ []) (3 ∷ []) (next three 7 ∷ []))
-    (λ acc. shape-kept-bays line (1 ∷ 2 ∷ 3 ∷ []) (3 ∷ []) acc (next three 7 ∷ []) 1 (omega arith)) (next three 7) second-bay
-    ∙ rw (line-in .0, line-unfit)
+    let first : List Call = next three 7 ∷ [] in
+    let four = four-kept line (1 ∷ 2 ∷ 3 ∷ []) (3 ∷ []) first in
+    let turn = turn-kept line (1 ∷ 2 ∷ 3 ∷ []) (3 ∷ []) first in
+    let shape = shape-kept-bays line (1 ∷ 2 ∷ 3 ∷ []) (3 ∷ []) (line-in .0) first 1 (omega arith) in
+    refusal-in line (1 ∷ 2 ∷ 3 ∷ []) (4 ∷ []) 1 (omega arith) once four turn (λ acc. shape) (next three 7) second-bay ∙ rw (line-in .0, line-unfit)
 
 pub second-refused : second .step ≡ refusedBay 14 (withTurn 2 once)
 second-refused =
