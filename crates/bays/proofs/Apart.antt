@@ -19,7 +19,7 @@ use Rattle.queue.specs.Delivered.{Input, marked, over}
 use Rattle.claims.specs.Promised.{stepIn, wordsFrom, stateFrom}
 use Rattle.claims.proofs.Theorems.{count-rises}
 use Rattle.bays.specs.Calls.{stateAt}
-use Rattle.bays.specs.Promised.{Call, bayOf, seenBy, answer, recordFrom, wordsOfBay, ownSteps, on, givenOn, aloneStep}
+use Rattle.bays.specs.Promised.{Call, bayOf, seenBy, answer, on, givenOn, endRecord, answersTo, saidIn, allCalls, ownSteps, aloneStep}
 use Rattle.bays.specs.declared.Bays.{Bays}
 use Rattle.bays.specs.declared.BayStepped.{BayStepped}
 use Rattle.bays.proofs.Alone.{alone-refused, alone-worked, still-four, call-other, call-own}
@@ -108,24 +108,33 @@ module _ (net : Net) (words ends : List ℕ) (b : ℕ) (h : b < 4) where
 
   -- what is claimed of bay b from record r
   pub record Follows (r : Bays) (ms : List Call) : Type 0 where
-    pub state-is : stateAt (recordFrom net words ends r ms) b ≡ stateFrom net (stateAt r b) (over words ends (ownSteps net words ends r ms b))
-    pub count-is : stateAt (recordFrom net words ends r ms) b .count ≡ stateAt r b .count + length (ownSteps net words ends r ms b)
-    pub words-are : (c : ℕ) → wordsOfBay net words ends r ms b c ≡ wordsFrom net (stateAt r b) (over words ends (ownSteps net words ends r ms b)) c
+    pub state-is : stateAt (endRecord r (allCalls net words ends ms)) b ≡ stateFrom net (stateAt r b) (over words ends (ownSteps net words ends r ms b))
+    pub count-is : stateAt (endRecord r (allCalls net words ends ms)) b .count ≡ stateAt r b .count + length (ownSteps net words ends r ms b)
+    pub words-are : (c : ℕ) → saidIn (answersTo b r (allCalls net words ends ms)) c ≡ wordsFrom net (stateAt r b) (over words ends (ownSteps net words ends r ms b)) c
+
+  -- one more call
+  said-first : (t : Bool) (x : Stepped) (l : List Stepped) (c : ℕ) → saidIn (cond t (x ∷ []) [] ++ l) c ≡ cond t (marked x c) [] ++ saidIn l c
+  said-first true x l c = refl
+  said-first false x l c = refl
 
   pub follows : (r : Bays) (ms : List Call) → length (r .states) ≡ 4 → Follows r ms
   follows r [] four = record { state-is = refl; count-is = omega arith; words-are = λ c. refl }
   follows r (m ∷ ms) four = by (sees r four m) (follows (answer net words ends r m .bays) ms (still-four r (on net words ends m) four))
     where
+      said-more : (c : ℕ) → saidIn (answersTo b r (allCalls net words ends (m ∷ ms))) c
+          ≡ said r four m c ++ saidIn (answersTo b (answer net words ends r m .bays) (allCalls net words ends ms)) c
+      said-more = said-first (eqb (bayOf net words ends r m) b) (seenBy b (answer net words ends r m)) (answersTo b (answer net words ends r m .bays) (allCalls net words ends ms))
+
       by : Idle r four m ⊎ Steps r four m → Follows (answer net words ends r m .bays) ms → Follows r (m ∷ ms)
       by (inl i) f =
           record {
             state-is = rw (i .not-own) (f .state-is ∙ rw (i .rests));
             count-is = rw (i .not-own) (f .count-is ∙ rw (i .rests));
-            words-are = λ c. rw (i .not-own, i .quiet c) (f .words-are c ∙ rw (i .rests));
+            words-are = λ c. said-more c ∙ rw (i .not-own, i .quiet c) (f .words-are c ∙ rw (i .rests));
           }
       by (inr s) f =
           record {
             state-is = rw (s .own) (f .state-is ∙ rw (s .after));
             count-is = rw (s .own) (omega (arith, f .count-is, ap (λ (t : State). t .count) (s .after), s .counted));
-            words-are = λ c. rw (s .own, s .heard c) (ap (_++_ (marked (ownStep r four m) c)) (f .words-are c ∙ rw (s .after)));
+            words-are = λ c. said-more c ∙ rw (s .own, s .heard c) (ap (_++_ (marked (ownStep r four m) c)) (f .words-are c ∙ rw (s .after)));
           }

@@ -7,7 +7,7 @@ pub mod Alone
 pub mod Free
 pub mod Apart
 pub mod Allowance
-pub mod Kept
+pub mod Fresh
 -- The promises, proved, and instances of them.
 pub mod Theorems
 pub mod Trials

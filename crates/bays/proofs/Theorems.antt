@@ -8,7 +8,7 @@ use mathlib.Core.Bool.{Bool, true, false, cond, not}
 use mathlib.Core.Logic.{_≢_, inl, inr}
 use mathlib.Core.List.{List, [], _++_, IsPrefix, List·Memᴰ}
 use native.Mathlib.Omega.{arith}
-use borrow.Author.Tests.{leb-true, leb-false}
+use borrow.Author.Tests.{leb-true, leb-false, lt-leb}
 use lib.Dec.{leb}
 use lib.ListN.{length, take}
 use Rattle.blocks.proofs.Options.{test}
@@ -31,6 +31,7 @@ use Rattle.bays.specs.Promised.{
   step,
   next,
   answer,
+  allCalls,
   recordAfter,
   bayDelivered,
   callsOf,
@@ -75,7 +76,7 @@ use Rattle.bays.proofs.Alone.{call-own}
 use Rattle.bays.proofs.Free.{aloneFrom, alone-from, end-four, end-side, lastSeen, end-state, steps-give, said-steps}
 use Rattle.bays.proofs.Apart.{Follows, follows}
 use Rattle.bays.proofs.Allowance.{refusal-in, first-asked}
-use Rattle.bays.proofs.Kept.{fresh-at, fresh-four, fresh-count, fresh-turn, four-from, turn-from}
+use Rattle.bays.proofs.Fresh.{fresh-at, fresh-four, fresh-count, fresh-turn}
 
 -- ## One call
 
@@ -141,10 +142,12 @@ shape-kept-bays net words ends acc =
     bays-carry net words ends (λ d s. shapeOk net s ≡ true) (λ masks. shape-from net acc (freshOf net .state) (over words ends masks) (shape-kept net acc .0))
 
 pub turn-kept : TurnKept
-turn-kept net words ends calls = turn-from net words ends (freshBays net .bays) calls (fresh-turn net)
+turn-kept net words ends calls =
+    let r : Bays = freshBays net .bays in
+    leb-false 4 (recordAfter net words ends calls .turn) (end-side (allCalls net words ends calls) r ∙ lt-leb 4 (r .turn) (fresh-turn net))
 
 pub four-kept : (net : Net) (words ends : List ℕ) (calls : List Call) → length (recordAfter net words ends calls .states) ≡ 4
-four-kept net words ends calls = four-from net words ends (freshBays net .bays) calls (fresh-four net)
+four-kept net words ends calls = end-four (allCalls net words ends calls) (freshBays net .bays) (fresh-four net)
 
 pub count-is-steps : CountIsSteps
 count-is-steps net words ends calls b h = omega (arith, followed net words ends calls b h .count-is, ap (λ (s : State). s .count) (fresh-at net b h), fresh-count net)

@@ -43,7 +43,7 @@ use Rattle.bays.specs.declared.BayStepped.{BayStepped}
 use Rattle.bays.specs.declared.Turned.{Turned}
 use Rattle.bays.proofs.Refusals.{bay-beyond}
 use Rattle.bays.proofs.Allowance.{refusal-in}
-use Rattle.bays.proofs.Kept.{fresh-turn}
+use Rattle.bays.proofs.Fresh.{fresh-turn}
 use Rattle.bays.proofs.Theorems.{bay-alone, bays-free, bays-apart, own-choices, shape-kept-bays, turn-kept, four-kept, count-is-steps, refused-by-count, own-allowance}
 use Rattle.bays.proofs.Theorems.{next-is-step, served-in-four, guaranteed-bays, same-choices-bays, said-among, guaranteed-among}
 

@@ -54,45 +54,6 @@ module _ (net : Net) (words ends : List ℕ) where
   answer r (step k masks) = stepBay net r k words ends (masks .0) (masks .1)
   answer r (next masks want) = nextBay net r words ends masks want .step
 
-  -- Calls one after another from record r, refused ones included: each gets the record that the last one returned.
-
-  -- the record that the last one returns
-  abbrev pub recordFrom : Bays → List Call → Bays
-  recordFrom r [] = r
-  recordFrom r (m ∷ ms) = recordFrom (answer r m .bays) ms
-
-  -- bay b's deliveries on channel c
-  abbrev pub wordsOfBay : Bays → List Call → ℕ → ℕ → List ℕ
-  wordsOfBay r [] b c = []
-  wordsOfBay r (m ∷ ms) b c = cond (eqb (bayOf r m) b) (marked (seenBy b (answer r m)) c) [] ++ wordsOfBay (answer r m .bays) ms b c
-
-  -- the masks of all calls for bay b
-  abbrev pub callsFrom : Bays → List Call → ℕ → List (ℕ × ℕ)
-  callsFrom r [] b = []
-  callsFrom r (m ∷ ms) b = cond (eqb (bayOf r m) b) (masksOf r m ∷ []) [] ++ callsFrom (answer r m .bays) ms b
-
-  -- the masks of "its own steps that weren't refused"
-  abbrev pub ownSteps : Bays → List Call → ℕ → List (ℕ × ℕ)
-  ownSteps r [] b = []
-  ownSteps r (m ∷ ms) b = cond (eqb (bayOf r m) b && eqb (answer r m .refusal) 0) (masksOf r m ∷ []) [] ++ ownSteps (answer r m .bays) ms b
-
-  -- from a fresh record
-  abbrev pub recordAfter : List Call → Bays
-  recordAfter ms = recordFrom (freshBays net .bays) ms
-
-  abbrev pub bayDelivered : List Call → ℕ → ℕ → List ℕ
-  bayDelivered ms b c = wordsOfBay (freshBays net .bays) ms b c
-
-  abbrev pub callsOf : List Call → ℕ → List (ℕ × ℕ)
-  callsOf ms b = callsFrom (freshBays net .bays) ms b
-
-  abbrev pub ownOf : List Call → ℕ → List (ℕ × ℕ)
-  ownOf ms b = ownSteps (freshBays net .bays) ms b
-
-  -- request 2's choices of a merge, block x, by what bay b delivers and by its state
-  abbrev pub bayChoices : List Call → ℕ → ℕ → List ℕ
-  bayChoices ms b x = bayDelivered ms b (report net x) ++ pending (regsOf (stateAt (recordAfter ms) b) x)
-
 -- a call with a net, words and ends of its own
 pub data CallOn : Type 0 where
   on : Net → List ℕ → List ℕ → Call → CallOn
@@ -107,7 +68,8 @@ givenOn r (on net words ends m) = (net, record { words = words; ends = ends; off
 abbrev pub answerOn : Bays → CallOn → BayStepped
 answerOn r (on net words ends m) = answer net words ends r m
 
--- Such calls one after another from record r, refused ones included: the record that the last one returns; what is given to bay b, call by call; and the answers that it sees.
+-- Such calls one after another from record r, refused ones included, where each gets the record that the last one returned: the record in the end; what is given to bay b, call by
+-- call; and the answers that it sees.
 
 abbrev pub endRecord : Bays → List CallOn → Bays
 endRecord r [] = r
@@ -120,6 +82,45 @@ givenTo b r (m ∷ ms) = cond (eqb (bayOn r m) b) (givenOn r m ∷ []) [] ++ giv
 abbrev pub answersTo : ℕ → Bays → List CallOn → List Stepped
 answersTo b r [] = []
 answersTo b r (m ∷ ms) = cond (eqb (bayOn r m) b) (seenBy b (answerOn r m) ∷ []) [] ++ answersTo b (answerOn r m .bays) ms
+
+-- the words that a list of answers delivers on channel c
+abbrev pub saidIn : List Stepped → ℕ → List ℕ
+saidIn [] c = []
+saidIn (t ∷ ts) c = marked t c ++ saidIn ts c
+
+module _ (net : Net) (words ends : List ℕ) where
+  -- calls that are all on this net and over these streams
+  abbrev pub allCalls : List Call → List CallOn
+  allCalls [] = []
+  allCalls (m ∷ ms) = on net words ends m ∷ allCalls ms
+
+  -- from record r the masks of all those for bay b
+  abbrev pub callsFrom : Bays → List Call → ℕ → List (ℕ × ℕ)
+  callsFrom r [] b = []
+  callsFrom r (m ∷ ms) b = cond (eqb (bayOf net words ends r m) b) (masksOf net words ends r m ∷ []) [] ++ callsFrom (answer net words ends r m .bays) ms b
+
+  -- the masks of "its own steps that weren't refused"
+  abbrev pub ownSteps : Bays → List Call → ℕ → List (ℕ × ℕ)
+  ownSteps r [] b = []
+  ownSteps r (m ∷ ms) b =
+      cond (eqb (bayOf net words ends r m) b && eqb (answer net words ends r m .refusal) 0) (masksOf net words ends r m ∷ []) [] ++ ownSteps (answer net words ends r m .bays) ms b
+
+  -- from a fresh record: the record in the end, bay b's deliveries on channel c, its masks
+  abbrev pub recordAfter : List Call → Bays
+  recordAfter ms = endRecord (freshBays net .bays) (allCalls ms)
+
+  abbrev pub bayDelivered : List Call → ℕ → ℕ → List ℕ
+  bayDelivered ms b c = saidIn (answersTo b (freshBays net .bays) (allCalls ms)) c
+
+  abbrev pub callsOf : List Call → ℕ → List (ℕ × ℕ)
+  callsOf ms b = callsFrom (freshBays net .bays) ms b
+
+  abbrev pub ownOf : List Call → ℕ → List (ℕ × ℕ)
+  ownOf ms b = ownSteps (freshBays net .bays) ms b
+
+  -- request 2's choices of a merge, block x, by what bay b delivers and by its state
+  abbrev pub bayChoices : List Call → ℕ → ℕ → List ℕ
+  bayChoices ms b x = bayDelivered ms b (report net x) ++ pending (regsOf (stateAt (recordAfter ms) b) x)
 
 -- ## One call
 
@@ -286,14 +287,10 @@ SameChoicesBays =
     → ((x : ℕ) → x < net .size → blockAt net x .kind ≡ 7 → Comparable (bayChoices net words ends calls b x) (bayChoices net words ends others d x))
     → (c : ℕ) → c < net .channels → Comparable (bayDelivered net words ends calls b c) (bayDelivered net words ends others d c)
 
--- inputs that are all given with one net; and the words that a list of answers delivers on channel c
+-- inputs that are all given with one net
 abbrev pub allOn : Net → List Input → List (Net × Input)
 allOn net [] = []
 allOn net (n ∷ ns) = (net, n) ∷ allOn net ns
-
-abbrev pub saidIn : List Stepped → ℕ → List ℕ
-saidIn [] c = []
-saidIn (t ∷ ts) c = marked t c ++ saidIn ts c
 
 -- And the guarantee of a bay asks nothing of the others' calls (request 8): they may be on other nets and over other streams, as long as its own are on one net and one set of streams.
 -- Its merges make the choices of these calls.
