@@ -125,7 +125,7 @@ uint32_t draw_turn_beyond(struct random *r)
 // ---- Nets and streams
 
 // Streams of so many words that all have room, and masks for each bay, drawn in a way of its own. At times there are words behind the last stream.
-static void draw_signals(struct scene *s, struct random *r)
+void draw_signals(struct scene *s, struct random *r)
 {
     unsigned sources = count_kind(&s->draft, SOURCE), longest = sources > 0 ? MOST_WORDS / sources : 1;
     memset(s->words, 0, sizeof s->words);
@@ -138,7 +138,7 @@ static void draw_signals(struct scene *s, struct random *r)
     }
 }
 
-static void draw_net(struct scene *s, struct random *r, const struct wish *wish)
+void draw_net(struct scene *s, struct random *r, const struct wish *wish)
 {
     draw(r, wish, &s->draft);
     write_form(&s->draft, &s->form);
@@ -232,10 +232,8 @@ void draw_refused(struct scene *s, struct random *r, unsigned i)
 
 // ---- Records that are spoilt
 
-struct registers { uint32_t word, marks; };
-
 // Words and marks at the edge of what a block may hold: the block's m and the full marks of a fork are such edges.
-static struct registers edge_registers(struct random *r, const struct drawn *block)
+struct registers edge_registers(struct random *r, const struct drawn *block)
 {
     uint32_t m = block->m, full = (1u << m) - 1, marks = ONE_OF(r, 0, 1, 2, 3, 4, 128, 255);
     switch (block->kind) {
@@ -259,7 +257,7 @@ void set_registers(struct scene *s, struct random *r, unsigned bay, unsigned blo
 }
 
 // A block of the net; more often than by their number one of those whose rules name registers. Or an entry behind the blocks.
-static unsigned some_entry(struct random *r, const struct draft *d)
+unsigned some_entry(struct random *r, const struct draft *d)
 {
     if (chance(r, 6)) return chance(r, 2) ? d->blocks % 64 : below(r, 64);
     unsigned kind = ONE_OF(r, SOURCE, FORK, MERGE, DATA, FULL_DATA, CONTROL), b = below(r, d->blocks), tries = chance(r, 3) ? 0 : d->blocks;

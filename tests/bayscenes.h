@@ -46,6 +46,10 @@ uint32_t draw_want(struct random *r, unsigned way, unsigned bay);
 uint32_t draw_beyond(struct random *r);
 uint32_t draw_turn_beyond(struct random *r);
 
+// A net by a wish, with streams and masks; streams and masks for the net that is there.
+void draw_net(struct scene *s, struct random *r, const struct wish *wish);
+void draw_signals(struct scene *s, struct random *r);
+
 // A net with streams and masks: small; small with a merge; of 64 blocks or almost; small with streams that are spoilt, each time or every second time; with a
 // form that is refused, for each refusal in turn.
 typedef void scene_rule(struct scene *, struct random *, unsigned);
@@ -53,6 +57,11 @@ scene_rule draw_small, draw_merging, draw_large, draw_bad_ends, draw_any_ends, d
 
 // A number from a short list.
 #define ONE_OF(r, ...) ((const uint32_t[]){__VA_ARGS__})[below(r, sizeof((uint32_t[]){__VA_ARGS__}) / sizeof(uint32_t))]
+
+// An entry of a state, more often one of a block that has registers; registers at the edge of what a block may hold.
+struct registers { uint32_t word, marks; };
+unsigned some_entry(struct random *r, const struct draft *d);
+struct registers edge_registers(struct random *r, const struct drawn *block);
 
 // The registers of a block, or of an entry behind the blocks; such registers in shape or out of it, the answer says of which.
 void set_registers(struct scene *s, struct random *r, unsigned bay, unsigned block, uint32_t word, uint32_t marks);

@@ -12,11 +12,6 @@ use libc::STDOUT_FILENO;
 use nets::Net;
 use trace::numbers::number_at;
 
-// The most words and ends of a file.
-const WORD_ROOM: usize = 256;
-
-const END_ROOM: usize = 64;
-
 // The cycles that each bay has.
 const CYCLES: u32 = 1048576;
 
@@ -311,30 +306,21 @@ fn obey(net: Net, words: &[u32], ends: &[u32], commands: &[u8]) {
     show_record(trial.bays);
 }
 
-// The first n numbers that bytes hold, then zeros.
-fn numbers_in(bytes: &[u8], n: usize) -> [u32; 256]
-    requires { ⌜ (n ≤ 256) × (4 * n ≤ length (now bytes)) ⌝ }
-    ensures { λ r. ⌜ 256 ≡ length r ⌝ }
-{
-    let mut numbers = [0u32; 256];
-    let mut i: usize = 0;
-    while i < n {
-        numbers[i] = number_at(bytes, i);
-        i += 1;
+// Runs the calls of a file.
+fn run_file(file: &[u8]) {
+    let case = cases::read_case(file);
+    if !case.good {
+        io::write_all(STDOUT_FILENO, b"bad case\n");
+        return;
     }
-    numbers
-}
-
-// Runs the calls of a file whose parts lie in it.
-fn run_parts(file: &[u8], form_len: usize, word_count: usize, end_count: usize)
-    requires { ⌜ («word_count» ≤ 256) × («end_count» ≤ 64) × (12 + «form_len» + 4 * «word_count» + 4 * «end_count» ≤ length (now file)) ⌝ }
-{
-    let words_at = 12 + form_len;
-    let ends_at = words_at + 4 * word_count;
-    let commands_at = ends_at + 4 * end_count;
-    let words = numbers_in(&file[words_at..ends_at], word_count);
-    let ends = numbers_in(&file[ends_at..commands_at], end_count);
-    let loaded = forms::load(&file[12..words_at]);
+    let form_at = case.form_at;
+    let form_end = case.form_end;
+    let rest_at = case.rest_at;
+    let word_count = case.word_count;
+    let end_count = case.end_count;
+    let words = case.words;
+    let ends = case.ends;
+    let loaded = forms::load(&file[form_at..form_end]);
     print_byte(b"load ", loaded.refusal);
     end_line();
     let net = loaded.net;
@@ -342,36 +328,8 @@ fn run_parts(file: &[u8], form_len: usize, word_count: usize, end_count: usize)
         net,
         &words[..word_count],
         &ends[..end_count],
-        &file[commands_at..],
+        &file[rest_at..],
     );
-}
-
-fn say_bad() {
-    io::write_all(STDOUT_FILENO, b"bad case\n");
-}
-
-// Runs the calls of a file.
-fn run_file(file: &[u8]) {
-    if file.len() < 12 {
-        say_bad();
-        return;
-    }
-    let form_len = number_at(file, 0) as usize;
-    let word_count = number_at(file, 1) as usize;
-    let end_count = number_at(file, 2) as usize;
-    if WORD_ROOM < word_count {
-        say_bad();
-        return;
-    }
-    if END_ROOM < end_count {
-        say_bad();
-        return;
-    }
-    if file.len() < 12 + form_len + 4 * word_count + 4 * end_count {
-        say_bad();
-        return;
-    }
-    run_parts(file, form_len, word_count, end_count);
 }
 
 // ---- Two bays, bays that are refused beside others, and three bays in turn

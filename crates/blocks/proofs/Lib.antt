@@ -10,4 +10,5 @@ pub mod Numbers
 pub mod Counts
 pub mod Stays
 pub mod Emptied
+pub mod Asking
 pub mod Trials

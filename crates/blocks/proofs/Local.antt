@@ -49,7 +49,7 @@ leans unused = false
 
 -- ## The winner of a merge
 
-lowest-same : (m : ℕ) (g h : ℕ → Bool) → ((j : ℕ) → j < m → g j ≡ h j) → lowest g m ≡ lowest h m
+pub lowest-same : (m : ℕ) (g h : ℕ → Bool) → ((j : ℕ) → j < m → g j ≡ h j) → lowest g m ≡ lowest h m
 unfolding lowest
 lowest-same zero g h k = refl
 lowest-same (suc m) g h k = rw (lowest-same m g h (λ j q. k j (omega arith)), k m (omega arith))
@@ -64,7 +64,7 @@ lowest-below (suc m) g t e = go (lowest g m) (lowest-below m g t) (g m) e
     go none h true q = let z : m ≡ t = cc in omega arith
     go none h false q = none-some q
 
-winner-same : (m : ℕ) (x y : ℕ → Sig) (w : ℕ) → ((i : ℕ) → i < m → x i ≡ y i) → winner m x w ≡ winner m y w
+pub winner-same : (m : ℕ) (x y : ℕ → Sig) (w : ℕ) → ((i : ℕ) → i < m → x i ≡ y i) → winner m x w ≡ winner m y w
 winner-same m x y zero h = lowest-same m (validAt x) (validAt y) (λ i q. ap (λ (s : Sig). s .valid) (h i q))
 winner-same m x y (suc t) h = refl
 

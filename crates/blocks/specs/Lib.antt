@@ -6,4 +6,5 @@ pub mod Words
 pub mod Signals
 pub mod Equations
 pub mod Shape
+pub mod Asking
 pub mod Firing

@@ -17,7 +17,7 @@ pub struct Sampled {
 }
 
 // 1, 2, 3 for each of 32 sources, one source after another; a net with fewer leaves the last words to nobody.
-fn one_two_three() -> [u32; 96]
+pub fn one_two_three() -> [u32; 96]
     ensures { λ r. ⌜ r ≡ sampleWords ⌝ }
 {
     let mut words = [0u32; 96];
@@ -30,7 +30,7 @@ fn one_two_three() -> [u32; 96]
 }
 
 // Where the words of each of 32 sources end.
-fn ends_of_three() -> [u32; 32]
+pub fn ends_of_three() -> [u32; 32]
     ensures { λ r. ⌜ r ≡ endsFor 32 ⌝ }
 {
     let mut ends = [0u32; 32];
@@ -51,7 +51,7 @@ fn source_at(net: Net, b: usize) -> usize
 }
 
 // How many sources an accepted net has.
-fn count_sources(net: Net) -> usize
+pub fn count_sources(net: Net) -> usize
     requires { ⌜ Joined net ⌝ }
     ensures { λ r. ⌜ r ≡ kindCount net 0 ⌝ }
 {

@@ -1,2 +1,4 @@
 -- What the public calls answer.
 pub mod Calls
+-- What our own functions work out.
+pub mod Laid

@@ -13,18 +13,14 @@ ghost use Rattle.sim.specs.Calls.{freshOf, stepOf};
 ghost use Rattle.rows.specs.Flat.{Flat};
 ghost use Rattle.passes.specs.Rows.{Kinds};
 use crate::Fresh;
+use crate::cycle::prepare;
+use crate::cycle::signals_in;
 use cycles::State;
 use cycles::Stepped;
 use nets::Net;
 use nets::Plan;
 use rows::Sorted;
-use rows::checks::ends_fit;
-use rows::checks::shape_ok;
-use rows::flat::flatten;
-use rows::flat::pick;
-use rows::flat::sort_kinds;
 use signals::wires::moves_of;
-use signals::wires::wires;
 
 // The fresh state of n blocks.
 fn fresh_state(net: Net, n: usize) -> State
@@ -98,45 +94,31 @@ fn work(
     requires { ⌜ endsFit net (now stream) (now ends) ≡ true ⌝ }
     ensures { λ r. ⌜ r ≡ steppedBy net state (now (stream .entry)) (now (ends .entry)) (signalsOf net (now (stream .entry)) (now (ends .entry)) offer ready (regsOf state)) ⌝ }
 {
-    let n = net.size as usize;
-    let data = plan.data;
-    let control = plan.control;
-    let ahead = pick(false, n, &data, rows);
-    let behind = pick(true, n, &control, rows);
-    let forth = ahead.blocks;
-    let rear = behind.blocks;
-    let counts = sorted.counts;
-    let lists = sorted.lists;
-    let mut words = state.words;
-    let mut marks = state.marks;
     let mut valid = [false; 128];
     let mut word = [0u32; 128];
     let mut taken = [false; 128];
-    wires(
-        n,
-        ahead.count,
-        &forth,
-        behind.count,
-        &rear,
-        &counts,
-        &lists,
+    signals_in(
+        net,
+        plan,
+        sorted,
         rows,
         values,
-        b"",
+        state,
         stream,
-        b"",
         ends,
         offer,
         ready,
-        &words,
-        &marks,
         &mut valid,
         &mut word,
         &mut taken,
     );
+    let counts = sorted.counts;
+    let lists = sorted.lists;
+    let mut words = state.words;
+    let mut marks = state.marks;
     let moved = moves_of(net.channels as usize, &valid, &word, &taken);
     passes::registers::registers(
-        n,
+        net.size as usize,
         &counts,
         &lists,
         rows,
@@ -174,20 +156,16 @@ fn step_accepted(
     requires { ⌜ Promises net plan ⌝ }
     ensures { λ r. ⌜ r ≡ stepBy true net state (now (stream .entry)) (now (ends .entry)) offer ready ⌝ }
 {
-    let n = net.size as usize;
     let mut rows = [0u8; 768];
     let mut values = [0u32; 64];
-    flatten(net, n, &mut rows, &mut values);
-    if !shape_ok(state, n, &rows) {
-        return refused(13, state);
-    }
-    let sorted = sort_kinds(n, &rows);
-    if !ends_fit(sorted.counts[0], stream.len(), b"", ends) {
-        return refused(14, state);
+    let laid = prepare(net, state, stream, ends, &mut rows, &mut values);
+    if laid.refusal != 0 {
+        return refused(laid.refusal, state);
     }
     if 1048576 <= state.count {
         return refused(16, state);
     }
+    let sorted = laid.sorted;
     work(
         net,
         plan,

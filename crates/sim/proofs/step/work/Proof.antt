@@ -2,13 +2,12 @@
 -- Assumes nothing.
 use mathlib.Core.Path.{_≡_, refl}
 use native.Mathlib.Omega.{arith}
+use borrow.Author.Needs.{needs}
 use lib.ListN.{length, length-map}
 use Rattle.rows.specs.Ends.{streamAt, maskAt}
-use Rattle.sim.proofs.Results.{shaped-of, fitting, stepped-is}
-use Rattle.sim.proofs.Netted.{rowed, ahead-of, back-of}
 use Rattle.nets.proofs.Nets.{size-high, channels-high}
-use Rattle.trace.specs.Numbers.{numbersOf}
-use borrow.Author.Needs.{needs}
+use Rattle.sim.proofs.Results.{shaped-of, stepped-is}
+use Rattle.sim.proofs.Netted.{rowed}
 use Rattle.sim.proofs.step.work.Statement.{statement}
 use Rattle.sim.proofs.step.work.Tie as tie
 
@@ -20,111 +19,66 @@ state-long c =
     let y : length (c .args .state .marks) ≡ 64 = simp length-map at (g .1 .1 .1 .1 .0 .1 .0 .1) in
     (x, y)
 
-cast-n : tie.Need-cast-n
-cast-n c = search needs
-
-pick-requires : tie.Need-pick-requires
-pick-requires c κs =
-    let a = c .before .before .before .before .before .before .args in
-    let p = c .before .before .before .before .before .before .pre .0 in
-    let flat = c .before .before .before .before .before .before .pre .1 .0 in
-    let kinds = c .before .before .before .before .before .before .pre .1 .1 .0 in
-    let ok = c .before .before .before .before .before .before .pre .1 .1 .1 .0 in
-    let fit = c .before .before .before .before .before .before .pre .1 .1 .1 .1 in
-    let w = rowed (a .net) (a .rows .now) (a .values .now) flat (p .fields) (p .joins) (a .stream .now) (a .ends .now) in
-    let forth = ahead-of (a .net) (a .rows .now) (a .values .now) flat (p .fields) (p .joins) (a .stream .now) (a .ends .now) (a .plan .«data») (p .data-order) in
-    let rear = back-of (a .net) (a .rows .now) (a .values .now) flat (p .fields) (p .joins) (a .stream .now) (a .ends .now) (a .plan .control) (p .control-order) in
-    let shaped = shaped-of (a .net) (a .rows .now) (a .values .now) flat (size-high (a .net) (p .fields)) (a .state) (ok .0) in
-    (w, forth .list)
-
-pick-requires-2 : tie.Need-pick-requires-2
-pick-requires-2 c κs =
-    let a = c .before .before .before .before .before .before .before .before .args in
-    let p = c .before .before .before .before .before .before .before .before .pre .0 in
-    let flat = c .before .before .before .before .before .before .before .before .pre .1 .0 in
-    let kinds = c .before .before .before .before .before .before .before .before .pre .1 .1 .0 in
-    let ok = c .before .before .before .before .before .before .before .before .pre .1 .1 .1 .0 in
-    let fit = c .before .before .before .before .before .before .before .before .pre .1 .1 .1 .1 in
-    let w = rowed (a .net) (a .rows .now) (a .values .now) flat (p .fields) (p .joins) (a .stream .now) (a .ends .now) in
-    let forth = ahead-of (a .net) (a .rows .now) (a .values .now) flat (p .fields) (p .joins) (a .stream .now) (a .ends .now) (a .plan .«data») (p .data-order) in
-    let rear = back-of (a .net) (a .rows .now) (a .values .now) flat (p .fields) (p .joins) (a .stream .now) (a .ends .now) (a .plan .control) (p .control-order) in
-    let shaped = shaped-of (a .net) (a .rows .now) (a .values .now) flat (size-high (a .net) (p .fields)) (a .state) (ok .0) in
-    (w, rear .list)
-
-slice-aggregate-wires : tie.Need-slice-aggregate-wires
-slice-aggregate-wires c = search needs
-
-slice-aggregate-wires-2 : tie.Need-slice-aggregate-wires-2
-slice-aggregate-wires-2 c = search needs
-
-wires-requires : tie.Need-wires-requires
-unfolding numbersOf
-wires-requires c κs =
-    let a = c .before .before .before .before .before .before .before .before .before .before .before .before .before .before .before .before .before .before .before .before .before .before .before .before .before .before .args in
-    let p = c .before .before .before .before .before .before .before .before .before .before .before .before .before .before .before .before .before .before .before .before .before .before .before .before .before .before .pre .0 in
-    let flat = c .before .before .before .before .before .before .before .before .before .before .before .before .before .before .before .before .before .before .before .before .before .before .before .before .before .before .pre .1 .0 in
-    let kinds = c .before .before .before .before .before .before .before .before .before .before .before .before .before .before .before .before .before .before .before .before .before .before .before .before .before .before .pre .1 .1 .0 in
-    let ok = c .before .before .before .before .before .before .before .before .before .before .before .before .before .before .before .before .before .before .before .before .before .before .before .before .before .before .pre .1 .1 .1 .0 in
-    let fit = c .before .before .before .before .before .before .before .before .before .before .before .before .before .before .before .before .before .before .before .before .before .before .before .before .before .before .pre .1 .1 .1 .1 in
-    let w = rowed (a .net) (a .rows .now) (a .values .now) flat (p .fields) (p .joins) (a .stream .now) (a .ends .now) in
-    let forth = ahead-of (a .net) (a .rows .now) (a .values .now) flat (p .fields) (p .joins) (a .stream .now) (a .ends .now) (a .plan .«data») (p .data-order) in
-    let rear = back-of (a .net) (a .rows .now) (a .values .now) flat (p .fields) (p .joins) (a .stream .now) (a .ends .now) (a .plan .control) (p .control-order) in
-    let shaped = shaped-of (a .net) (a .rows .now) (a .values .now) flat (size-high (a .net) (p .fields)) (a .state) (ok .0) in
-    (w, ((c .before .before .before .before .before .before .before .before .before .before .before .before .before .before .before .before .before .before .before .pick .ensures .0 forth, c .before .before .before .before .before .before .before .before .before .before .before .before .before .before .before .before .before .pick2 .ensures .0 rear), ((c .before .before .before .before .before .before .before .before .before .before .before .before .before .before .before .before .before .before .before .pick .ensures .1, c .before .before .before .before .before .before .before .before .before .before .before .before .before .before .before .before .before .pick2 .ensures .1), (kinds, (shaped, (fitting (a .net) (a .rows .now) (a .values .now) flat (a .stream .now) (a .ends .now) (p .fields) (p .joins) _ _ (kinds 0 (omega arith)) fit, (record { valids = refl; words = refl }, refl)))))))
+signals-in-requires : tie.Need-signals-in-requires
+signals-in-requires c κs =
+    let start = c .before .before .before .before .before in
+    let p = start .pre in
+    (p .0, (p .1 .0, (p .1 .1 .0, ((p .1 .1 .1 .0 .0, p .1 .1 .1 .1), (record { valids = refl; words = refl }, refl)))))
 
 cast-moves-of : tie.Need-cast-moves-of
 cast-moves-of c = search needs
 
 moves-of-requires : tie.Need-moves-of-requires
-moves-of-requires c κs = channels-high (c .before .before .before .before .before .before .before .before .before .before .before .before .before .before .before .before .before .before .before .before .before .before .before .before .before .before .before .before .before .before .before .args .net) (c .before .before .before .before .before .before .before .before .before .before .before .before .before .before .before .before .before .before .before .before .before .before .before .before .before .before .before .before .before .before .before .pre .0 .fields)
+moves-of-requires c κs =
+    let start = c .before .before .before .before .before .before .before .before .before .before .before .before .before .before in
+    channels-high (start .args .net) (start .pre .0 .fields)
+
+cast-registers : tie.Need-cast-registers
+cast-registers c = search needs
 
 registers-requires : tie.Need-registers-requires
 registers-requires c κs =
-    let a = c .before .before .before .before .before .before .before .before .before .before .before .before .before .before .before .before .before .before .before .before .before .before .before .before .before .before .before .before .before .before .before .before .before .before .before .before .before .before .before .args in
-    let p = c .before .before .before .before .before .before .before .before .before .before .before .before .before .before .before .before .before .before .before .before .before .before .before .before .before .before .before .before .before .before .before .before .before .before .before .before .before .before .before .pre .0 in
-    let flat = c .before .before .before .before .before .before .before .before .before .before .before .before .before .before .before .before .before .before .before .before .before .before .before .before .before .before .before .before .before .before .before .before .before .before .before .before .before .before .before .pre .1 .0 in
-    let kinds = c .before .before .before .before .before .before .before .before .before .before .before .before .before .before .before .before .before .before .before .before .before .before .before .before .before .before .before .before .before .before .before .before .before .before .before .before .before .before .before .pre .1 .1 .0 in
-    let ok = c .before .before .before .before .before .before .before .before .before .before .before .before .before .before .before .before .before .before .before .before .before .before .before .before .before .before .before .before .before .before .before .before .before .before .before .before .before .before .before .pre .1 .1 .1 .0 in
-    let fit = c .before .before .before .before .before .before .before .before .before .before .before .before .before .before .before .before .before .before .before .before .before .before .before .before .before .before .before .before .before .before .before .before .before .before .before .before .before .before .before .pre .1 .1 .1 .1 in
-    let w = rowed (a .net) (a .rows .now) (a .values .now) flat (p .fields) (p .joins) (a .stream .now) (a .ends .now) in
-    let forth = ahead-of (a .net) (a .rows .now) (a .values .now) flat (p .fields) (p .joins) (a .stream .now) (a .ends .now) (a .plan .«data») (p .data-order) in
-    let rear = back-of (a .net) (a .rows .now) (a .values .now) flat (p .fields) (p .joins) (a .stream .now) (a .ends .now) (a .plan .control) (p .control-order) in
-    let shaped = shaped-of (a .net) (a .rows .now) (a .values .now) flat (size-high (a .net) (p .fields)) (a .state) (ok .0) in
-    (w, (kinds, (shaped, (c .before .before .before .before .before .before .before .before .before .before .before .before .wires .ensures .1 .0, state-long (c .before .before .before .before .before .before .before .before .before .before .before .before .before .before .before .before .before .before .before .before .before .before .before .before .before .before .before .before .before .before .before .before .before .before .before .before .before .before .before)))))
+    let after-signals = c .before .before .before .before .before .before .before .before .before .before .before .before .before .before .before .before .before in
+    let start = after-signals .before .before .before .before .before .before in
+    let given = start .args in
+    let p = start .pre .0 in
+    let flat = start .pre .1 .0 in
+    let shaped = shaped-of (given .net) (given .rows .now) (given .values .now) flat (size-high (given .net) (p .fields)) (given .state) (start .pre .1 .1 .1 .0 .0) in (
+      rowed (given .net) (given .rows .now) (given .values .now) flat (p .fields) (p .joins) (given .stream .now) (given .ends .now),
+      (start .pre .1 .1 .0, (shaped, (after-signals .signals-in .ensures .settled, state-long start))),
+    )
 
-add-t58 : tie.Need-add-t58
-add-t58 c = omega (arith, c .before .before .before .before .before .before .before .before .before .before .before .before .before .before .before .before .before .before .before .before .before .before .before .before .before .before .before .before .before .before .before .before .before .before .before .before .before .before .before .before .before .pre .1 .1 .1 .0 .1)
+add-t37 : tie.Need-add-t37
+add-t37 c =
+    let after-signals = c .before .before .before .before .before .before .before .before .before .before .before .before .before .before .before .before .before .before .before in
+    let start = after-signals .before .before .before .before .before .before in
+    omega (arith, start .pre .1 .1 .1 .0 .1)
 
 returns : tie.Need-returns
-unfolding numbersOf
 returns c =
-    let a = c .before .before .before .before .before .before .before .before .before .before .before .before .before .before .before .before .before .before .before .before .before .before .before .before .before .before .before .before .before .before .before .before .before .before .before .before .before .before .before .before .before .before .before .args in
-    let p = c .before .before .before .before .before .before .before .before .before .before .before .before .before .before .before .before .before .before .before .before .before .before .before .before .before .before .before .before .before .before .before .before .before .before .before .before .before .before .before .before .before .before .before .pre .0 in
-    let flat = c .before .before .before .before .before .before .before .before .before .before .before .before .before .before .before .before .before .before .before .before .before .before .before .before .before .before .before .before .before .before .before .before .before .before .before .before .before .before .before .before .before .before .before .pre .1 .0 in
-    let kinds = c .before .before .before .before .before .before .before .before .before .before .before .before .before .before .before .before .before .before .before .before .before .before .before .before .before .before .before .before .before .before .before .before .before .before .before .before .before .before .before .before .before .before .before .pre .1 .1 .0 in
-    let ok = c .before .before .before .before .before .before .before .before .before .before .before .before .before .before .before .before .before .before .before .before .before .before .before .before .before .before .before .before .before .before .before .before .before .before .before .before .before .before .before .before .before .before .before .pre .1 .1 .1 .0 in
-    let fit = c .before .before .before .before .before .before .before .before .before .before .before .before .before .before .before .before .before .before .before .before .before .before .before .before .before .before .before .before .before .before .before .before .before .before .before .before .before .before .before .before .before .before .before .pre .1 .1 .1 .1 in
-    let w = rowed (a .net) (a .rows .now) (a .values .now) flat (p .fields) (p .joins) (a .stream .now) (a .ends .now) in
-    let forth = ahead-of (a .net) (a .rows .now) (a .values .now) flat (p .fields) (p .joins) (a .stream .now) (a .ends .now) (a .plan .«data») (p .data-order) in
-    let rear = back-of (a .net) (a .rows .now) (a .values .now) flat (p .fields) (p .joins) (a .stream .now) (a .ends .now) (a .plan .control) (p .control-order) in
-    let shaped = shaped-of (a .net) (a .rows .now) (a .values .now) flat (size-high (a .net) (p .fields)) (a .state) (ok .0) in
-    let x = c .before .before .before .before .before .before .before .before .before .before .before .before .before .before .before .before .wires in
-    let r = c .before .before .before .registers in
-    stepped-is (a .net) (a .plan) p (a .rows .now) (a .values .now) flat (a .state) (ok .0) (a .stream .now) (a .ends .now) fit (a .offer) (a .ready) (x .last .1 .1 .1 .1 .1 .1 .1 .1 .1 .1 .1 .1 .1 .1 .1 .1 .1 .0) (x .last .1 .1 .1 .1 .1 .1 .1 .1 .1 .1 .1 .1 .1 .1 .1 .1 .1 .1 .0) (x .last .1 .1 .1 .1 .1 .1 .1 .1 .1 .1 .1 .1 .1 .1 .1 .1 .1 .1 .1 .0) (x .ensures .0) (r .last .1 .1 .1 .1 .1 .1 .1 .0) (r .last .1 .1 .1 .1 .1 .1 .1 .1 .0) (r .ensures .1 .1 .0) (r .ensures .1 .1 .1)
-    (r .ensures .0 (a .values .now) (streamAt (a .rows .now) (a .stream .now) (a .ends .now)) (maskAt (a .rows .now) (a .offer) (a .ready))) (r .ensures .1 .0) _ _ (c .before .before .before .before .before .before .before .before .before .before .before .moves-of .ensures)
+    let after-registers = c .before .before .before in
+    let after-moves = after-registers .before .before .before .before .before .before .before .before .before in
+    let after-signals = after-moves .before .before .before .before .before .before .before .before .before in
+    let start = after-signals .before .before .before .before .before .before in
+    let given = start .args in
+    let signals = after-signals .signals-in in
+    let next = after-registers .registers in
+    let arrays = signals .last .1 .1 .1 .1 .1 .1 .1 .1 .1 .1 in
+    let registers = next .last .1 .1 .1 .1 .1 .1 .1 in
+    let streams = streamAt (given .rows .now) (given .stream .now) (given .ends .now) in
+    let masks = maskAt (given .rows .now) (given .offer) (given .ready) in
+    stepped-is (given .net) (given .plan) (start .pre .0) (given .rows .now) (given .values .now) (start .pre .1 .0) (given .state) (start .pre .1 .1 .1 .0 .0) (given .stream .now)
+    (given .ends .now) (start .pre .1 .1 .1 .1) (given .offer) (given .ready) (arrays .0) (arrays .1 .0) (arrays .1 .1 .0) (signals .ensures .worked) (registers .0) (registers .1 .0)
+    (next .ensures .1 .1 .0) (next .ensures .1 .1 .1) (next .ensures .0 (given .values .now) streams masks) (next .ensures .1 .0) _ _ (after-moves .moves-of .ensures)
 
 pub work-spec : {M : Type 1} → statement M
 work-spec =
     tie.close
     (tie.spec
-    cast-n
-    pick-requires
-    pick-requires-2
-    slice-aggregate-wires
-    slice-aggregate-wires-2
-    wires-requires
+    signals-in-requires
     cast-moves-of
     moves-of-requires
+    cast-registers
     registers-requires
-    add-t58
+    add-t37
     returns)

@@ -1,11 +1,11 @@
--- `baytry::numbers_in` meets its contract: the array keeps its 256 entries. The loop's invariant: i is at most n.
+-- `cases::numbers_in` meets its contract: the array keeps its 256 entries. The loop's invariant: i is at most n.
 -- Assumes nothing.
 use Prim.Native.Nat.{_-_, _≤_}
 use mathlib.Core.Path.{_≡_}
 use lib.ListN.{length}
 use borrow.Author.Needs.{needs}
-use Rattle.baytry.proofs.numbers_in.Statement.{statement}
-use Rattle.baytry.proofs.numbers_in.Tie as tie
+use Rattle.cases.proofs.numbers_in.Statement.{statement}
+use Rattle.cases.proofs.numbers_in.Tie as tie
 
 abbrev Inv-loop : tie.InvT-loop
 Inv-loop bytes n numbers₀ i₀ numbers i = (i ≤ n) × (length numbers ≡ 256)

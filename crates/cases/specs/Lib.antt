@@ -1,0 +1,2 @@
+-- Working definitions of our own functions' contracts.
+pub mod Parts

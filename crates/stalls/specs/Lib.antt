@@ -1,0 +1,3 @@
+-- What the call answers, and what is promised of it.
+pub mod Calls
+pub mod Waits
