@@ -31,13 +31,14 @@ use Rattle.blocks.proofs.Numbers.{by-kind}
 use Rattle.cycles.proofs.States.{tab-is}
 use Rattle.cycles.proofs.Solution.{unique-in}
 use Rattle.ports.specs.Places.{sigAt, readyAt}
-use Rattle.passes.specs.Rows.{kindNo, mNo, regIn, Shaped, Listed}
+use Rattle.passes.specs.Rows.{kindNo, mNo, regIn, Shaped, Listed, Kinds}
 use Rattle.passes.specs.Passed.{nextNo}
 use Rattle.rows.specs.Flat.{Flat}
 use Rattle.rows.specs.Ends.{streamAt, maskAt, Fitting}
 use Rattle.signals.specs.Wires.{Worked, MovedIs}
 use Rattle.rows.specs.Checks.{entryIn, shapeNo}
-use Rattle.sim.proofs.Netted.{number-same, solved-of, next-same}
+use Rattle.sim.specs.Laid.{Given}
+use Rattle.sim.proofs.Netted.{rowed, ahead-of, back-of, number-same, solved-of, next-same}
 use Rattle.rows.proofs.Ascends.{fitting-of}
 
 -- the shape of registers does not depend on a value
@@ -89,6 +90,20 @@ module _ (net : Net) (rows values : List ℕ) (flat : Flat net (net .size) rows 
   pub fitting : (stream ends : List ℕ) (fields : fieldsOk net ≡ true) (joins : connected net ≡ true) (count : ℕ) (at : ℕ → ℕ) → Listed rows (net .size) 0 count at
       → endsFit net stream ends ≡ true → Fitting count (length stream) ends
   fitting stream ends fields joins count at l fit = fitting-of count (length stream) ends (fit-same stream ends fields joins count at l ∙ fit)
+
+-- what the signals of a cycle are worked out from, of an accepted net, a state in shape and ends that fit
+pub given-of : (net : Net) (plan : Plan) (p : Promises net plan) (rows values : List ℕ) (flat : Flat net (net .size) rows values) (s : State) → shapeOk net s ≡ true
+    → (stream ends : List ℕ) → endsFit net stream ends ≡ true → (counts lists : List ℕ) → Kinds rows (net .size) counts lists
+    → Given rows (net .size) (plan .data) (plan .control) counts lists (s .words) (s .marks) stream ends
+given-of net plan p rows values flat s ok stream ends fit counts lists kinds =
+    record {
+      rowed = rowed net rows values flat (p .fields) (p .joins) stream ends;
+      forth = ahead-of net rows values flat (p .fields) (p .joins) stream ends (plan .data) (p .data-order);
+      rear = back-of net rows values flat (p .fields) (p .joins) stream ends (plan .control) (p .control-order);
+      kinds = kinds;
+      shaped = shaped-of net rows values flat (size-high net (p .fields)) s ok;
+      fitting = fitting net rows values flat stream ends (p .fields) (p .joins) _ _ (kinds 0 (omega arith)) fit;
+    }
 
 -- the parts of a step's answer
 module _ (net : Net) (plan : Plan) (p : Promises net plan) (rows values : List ℕ) (flat : Flat net (net .size) rows values) (s : State) (ok : shapeOk net s ≡ true)

@@ -2,19 +2,12 @@
 ghost use mathlib.Core.Path.{_≡_};
 ghost use mathlib.Core.Bool.{true};
 ghost use lib.ListN.{length};
-ghost use Rattle.cycles.specs.State.{shapeOk};
-ghost use Rattle.cycles.specs.Streams.{endsFit};
 ghost use Rattle.nets.specs.Net.{fieldsOk, connected};
-ghost use Rattle.nets.specs.Promises.{Promises};
 ghost use Rattle.ports.specs.Places.{Sized};
-ghost use Rattle.passes.specs.Rows.{Kinds};
-ghost use Rattle.rows.specs.Flat.{Flat};
-ghost use Rattle.sim.specs.Laid.{Laid, Shown};
+ghost use Rattle.sim.specs.Laid.{Laid, Given, Shown};
 use crate::Prepared;
 use cycles::State;
 use nets::Net;
-use nets::Plan;
-use rows::Sorted;
 use rows::checks::ends_fit;
 use rows::checks::shape_ok;
 use rows::flat::flatten;
@@ -53,48 +46,42 @@ pub fn prepare(
     Prepared { refusal: 0, sorted }
 }
 
-// The signals of a cycle of an accepted net, whose rows and lists are made, over streams that fit: what each channel shows, and whether it is ready.
+// The signals of a cycle whose rows, lists and orders are made, over streams that fit: what each channel shows, and whether it is ready.
 pub fn signals_in(
-    net: Net,
-    plan: Plan,
-    sorted: Sorted,
+    n: usize,
+    data: &[u8; 64],
+    control: &[u8; 64],
+    counts: &[usize; 11],
+    lists: &[u8; 704],
     rows: &[u8; 768],
     values: &[u32; 64],
-    state: State,
     stream: &[u32],
     ends: &[u32],
     offer: u32,
     mask: u32,
+    words: &[u32; 64],
+    marks: &[u8; 64],
     valid: &mut [bool; 128],
     word: &mut [u32; 128],
     ready: &mut [bool; 128],
 )
-    requires { ⌜ Promises net plan ⌝ }
-    requires { ⌜ Flat net (net .size) (now rows) (now values) ⌝ }
-    requires { ⌜ Kinds (now rows) (net .size) (sorted .counts) (sorted .lists) ⌝ }
-    requires { ⌜ (shapeOk net state ≡ true) × (endsFit net (now stream) (now ends) ≡ true) ⌝ }
+    requires { ⌜ Given (now rows) n (now «data») (now control) (now counts) (now lists) (now words) (now marks) (now stream) (now ends) ⌝ }
     requires { ⌜ (Sized (now valid) (now word)) × (length (now ready) ≡ 128) ⌝ }
-    ensures { λ _. ⌜ Shown net state (now (stream .entry)) (now (ends .entry)) offer mask (now (rows .entry)) (now (values .entry)) (now (valid .exit)) (now (word .exit)) (now (ready .exit)) ⌝ }
+    ensures { λ _. ⌜ Shown (now (rows .entry)) (now (values .entry)) n (now (words .entry)) (now (marks .entry)) (now (stream .entry)) (now (ends .entry)) offer mask
+        (now (valid .exit)) (now (word .exit)) (now (ready .exit)) ⌝ }
 {
-    let n = net.size as usize;
-    let data = plan.data;
-    let control = plan.control;
-    let ahead = pick(false, n, &data, rows);
-    let behind = pick(true, n, &control, rows);
+    let ahead = pick(false, n, data, rows);
+    let behind = pick(true, n, control, rows);
     let forth = ahead.blocks;
     let rear = behind.blocks;
-    let counts = sorted.counts;
-    let lists = sorted.lists;
-    let words = state.words;
-    let marks = state.marks;
     wires(
         n,
         ahead.count,
         &forth,
         behind.count,
         &rear,
-        &counts,
-        &lists,
+        counts,
+        lists,
         rows,
         values,
         b"",
@@ -103,8 +90,8 @@ pub fn signals_in(
         ends,
         offer,
         mask,
-        &words,
-        &marks,
+        words,
+        marks,
         valid,
         word,
         ready,

@@ -94,31 +94,37 @@ fn work(
     requires { ⌜ endsFit net (now stream) (now ends) ≡ true ⌝ }
     ensures { λ r. ⌜ r ≡ steppedBy net state (now (stream .entry)) (now (ends .entry)) (signalsOf net (now (stream .entry)) (now (ends .entry)) offer ready (regsOf state)) ⌝ }
 {
-    let mut valid = [false; 128];
-    let mut word = [0u32; 128];
-    let mut taken = [false; 128];
-    signals_in(
-        net,
-        plan,
-        sorted,
-        rows,
-        values,
-        state,
-        stream,
-        ends,
-        offer,
-        ready,
-        &mut valid,
-        &mut word,
-        &mut taken,
-    );
+    let n = net.size as usize;
+    let data = plan.data;
+    let control = plan.control;
     let counts = sorted.counts;
     let lists = sorted.lists;
     let mut words = state.words;
     let mut marks = state.marks;
+    let mut valid = [false; 128];
+    let mut word = [0u32; 128];
+    let mut taken = [false; 128];
+    signals_in(
+        n,
+        &data,
+        &control,
+        &counts,
+        &lists,
+        rows,
+        values,
+        stream,
+        ends,
+        offer,
+        ready,
+        &words,
+        &marks,
+        &mut valid,
+        &mut word,
+        &mut taken,
+    );
     let moved = moves_of(net.channels as usize, &valid, &word, &taken);
     passes::registers::registers(
-        net.size as usize,
+        n,
         &counts,
         &lists,
         rows,

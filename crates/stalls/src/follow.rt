@@ -130,26 +130,34 @@ fn work(
     requires { ⌜ channel < net .channels ⌝ }
     ensures { λ r. ⌜ r ≡ answerOf net state (now (stream .entry)) (now (ends .entry)) offer ready channel ⌝ }
 {
+    let n = net.size as usize;
+    let data = plan.data;
+    let control = plan.control;
+    let counts = sorted.counts;
+    let lists = sorted.lists;
+    let words = state.words;
+    let marks = state.marks;
     let mut valid = [false; 128];
     let mut word = [0u32; 128];
     let mut taken = [false; 128];
     signals_in(
-        net,
-        plan,
-        sorted,
+        n,
+        &data,
+        &control,
+        &counts,
+        &lists,
         rows,
         values,
-        state,
         stream,
         ends,
         offer,
         ready,
+        &words,
+        &marks,
         &mut valid,
         &mut word,
         &mut taken,
     );
-    let words = state.words;
-    let marks = state.marks;
     let from = plan.producer;
     let to = plan.consumer;
     chain_from(
