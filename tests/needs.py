@@ -8,8 +8,9 @@ import sys
 
 ROOT = pathlib.Path(__file__).resolve().parent.parent
 PAGE = ROOT / "docs" / "ARCHITECTURE.md"
-# These say "less than N KiB of stack".
-ROUNDED = (ROOT / "README.md", ROOT / "include" / "whemdrosk.h")
+HEADER = ROOT / "include" / "whemdrosk.h"
+# These say "less than N KiB of stack"; the header has the bytes too.
+ROUNDED = (ROOT / "README.md", HEADER)
 CALLS = ("whemdrosk_check", "whemdrosk_run")
 # What the host's C library has to do for it.
 FROM_THE_HOST = {"memcpy", "memset"}
@@ -100,6 +101,8 @@ def faults(library, painted):
         limit = re.search(r"less than (\d+) KiB of stack", path.read_text())
         if not limit or not most < 1024 * int(limit.group(1)):
             yield f"{path.name}: it should say that a call uses less than {most // 1024 + 1} KiB of stack"
+    if re.findall(r"^#define WHEMDROSK_STACK_BYTES (.*)$", HEADER.read_text(), re.M) != [str(most)]:
+        yield f"{HEADER.name}: WHEMDROSK_STACK_BYTES should be {most}"
     undefined = set(re.findall(r"^ +U (\S+)$", said("nm", "-u", library), re.M))
     if undefined != FROM_THE_HOST:
         yield f"the library calls {sorted(undefined)} of its host, not {sorted(FROM_THE_HOST)}"

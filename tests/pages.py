@@ -57,7 +57,7 @@ def check_edits(page, text):
 def check_targets(page, text):
     makefile = (ROOT / "Makefile").read_text()
     for target in re.findall(r"(?:^|`)make (?!-)([a-z]+)", text, re.M):
-        if not re.search(rf"^{target}:", makefile, re.M):
+        if not re.search(rf"^(?:[a-z]+ )*{target}(?: [a-z]+)*:", makefile, re.M):
             fault(f"{page}: make has no target {target}")
 
 
@@ -85,6 +85,15 @@ def check_crates():
         name = f"{path.parts[-3]}/specs/{path.stem}"
         if path.stem != "Lib" and f"`{name}.antt`" not in text and f"`{name}`" not in text:
             fault(f"docs/ARCHITECTURE.md: {name} is listed neither as a file to believe nor as one that needs none")
+
+
+def check_version():
+    """The header's version, which is the tool's too, has the number of the last request that has landed."""
+    last = max(int(path.name[:2]) for path in (ROOT / "docs" / "changes").glob("[0-9][0-9]*.md"))
+    for path, pattern in ((ROOT / "include" / "whemdrosk.h", r'#define WHEMDROSK_VERSION "(.*)"'), (ROOT / "tools" / "planner" / "command.py", r'VERSION = "(.*)"')):
+        version = re.search(pattern, path.read_text()).group(1)
+        if version != f"1.{last}.0":
+            fault(f"{path.relative_to(ROOT)}: the version is {version}, and the last request is {last}")
 
 
 NAME = r"[^\s:(){}\[\]«».,;]+"
@@ -127,6 +136,7 @@ def main():
         for check in (check_counts, check_files, check_edits, check_targets, check_laws, check_quotes):
             check(page, text)
     check_crates()
+    check_version()
     check_names()
     for text in faults:
         print(text)

@@ -1,0 +1,1 @@
+"""The planner's tool over the proved library: nets as text, checked, run, drawn and shown."""
