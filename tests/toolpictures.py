@@ -33,20 +33,20 @@ def texts(element, classes=None):
     return ["".join(text.itertext()) for text in element.iter(f"{SPACE}text") if classes is None or text.get("class") == classes]
 
 
-def looks(net, number):
-    """How a block is drawn: the shapes, without their places and sizes, and the classes."""
+def look(net, number):
+    """How a block is drawn: its shape, which way it points, and the style of its border."""
     line = next(line for line in drawing.dot_of(net).splitlines() if f'id="block-{number}"' in line)
-    return tuple(re.findall(r'(?:shape|orientation|style|STYLE)="?([\w,]+)', line)), re.search(r"BORDER=\"[12]\"", line) and re.search(r"BORDER=\"[12]\"", line).group(0)
+    return tuple(sorted(re.findall(r'\b(shape|orientation|style|STYLE)="([\w,]+)"', line)))
 
 
 def kinds():
-    """Each kind looks like no other, but a full data buffer like an empty one with its word in it."""
+    """Each kind looks like no other, but a full data buffer like an empty one with its word in it; constants, first words and the names of ends are there to be read."""
     seen = {}
     for path in sorted((ROOT / "docs" / "blocks").glob("*.net")):
         net = language.read_net(path.name, path.read_bytes())
         found = parsed(net)
         for number, block in enumerate(net.blocks):
-            seen.setdefault(8 if block.kind == 9 else block.kind, set()).add(looks(net, number) + (("mux", "demux", "merge", "fork").count(block.word) and block.word,))
+            seen.setdefault(8 if block.kind == 9 else block.kind, set()).add(look(net, number))
             said = texts(found[f"block-{number}"])
             holds(block.value is None or any(str(block.value) in text for text in said), f"the picture of {path.name} does not say {block.value}")
             holds(block.kind not in (0, 1) or net.names[(block.outputs + block.inputs)[0]] in said, f"the picture of {path.name} does not name an end")

@@ -171,7 +171,8 @@ def operator(block):
 
 def constant(block):
     """An operation with a constant inside: as a circle, drawn out as far as the constant needs."""
-    return {"shape": "box", "style": "filled,rounded", "height": inches(CIRCLE), "width": inches(CIRCLE), "margin": "0.1,0", "label": f"{SIGNS[block.m]} {block.value}"}
+    label = f"{SIGNS[block.m]} {block.value}"
+    return {"shape": "ellipse", "fixedsize": "true", "height": inches(CIRCLE), "width": inches(CIRCLE + letters(label) * LETTER * NAME_SIZE), "label": label}
 
 
 def table(rows, look='BORDER="0" CELLBORDER="0"', between=""):
@@ -260,11 +261,6 @@ def port_of(net, number, way, port):
     return f":{SIDES[way]}"
 
 
-def ends_of(net, channel, way):
-    """The ends of a channel at blocks: the block and the number of its port."""
-    return [(number, port) for number, block in enumerate(net.blocks) for port, end in enumerate(block.outputs if way == "out" else block.inputs) if end == channel]
-
-
 def end_marks(net, number, port):
     """What marks the end of a channel at a block: which operand it is, or that it selects."""
     block = net.blocks[number]
@@ -298,7 +294,7 @@ def edge(tail, head, back, look):
 
 def channel_lines(net, channel, back, moment, room):
     """The lines of a channel: its label, and an edge from each port that it leaves and to each that it enters. A loose end is a red point."""
-    givers, takers = ends_of(net, channel, "out"), ends_of(net, channel, "in")
+    givers, takers = net.ends_out(channel), net.ends_in(channel)
     parts = (f"channel-{channel}.{part}" for part in itertools.count())
     name = net.names[channel]
     label = quoted(f"channel {name}")

@@ -1,14 +1,11 @@
 """Nets and recordings in files: which of them is text and which a stored form, and where the names of a form come from."""
 import pathlib
-import struct
 import sys
 
 from . import forms, language, refusals
 from .faults import Fault, quoted
+from .library import CHANNEL_BITS, CYCLE_BITS, RECORD, RECORD_BYTES, WORD_BITS, recorded
 from .streams import lines_of, read_file
-
-RECORD = struct.Struct(">II")
-CYCLE_BITS, CHANNEL_BITS, WORD_BITS = 25, 7, 32
 
 
 def is_form(path, data):
@@ -91,7 +88,7 @@ def trace_of(path, data):
 
 def records_of(path, data):
     """The lines of a recording: cycle, channel and word of each delivery."""
-    if len(data) % RECORD.size:
-        raise Fault(f"{path}: it has {len(data)} bytes, and a recording has {RECORD.size} for each delivery; write the records of a run alone")
-    for head, word in RECORD.iter_unpack(data):
-        yield f"{head >> CHANNEL_BITS} {head & (1 << CHANNEL_BITS) - 1} {word}"
+    if len(data) % RECORD_BYTES:
+        raise Fault(f"{path}: it has {len(data)} bytes, and a recording has {RECORD_BYTES} for each delivery; write the records of a run alone")
+    for number in range(len(data) // RECORD_BYTES):
+        yield " ".join(map(str, recorded(data, number)))

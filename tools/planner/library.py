@@ -13,7 +13,10 @@ ROOT = pathlib.Path(__file__).resolve().parent.parent.parent
 SHARED = ROOT / "build" / "libwhemdrosk.so"
 # Names another shared object, as one that is installed elsewhere.
 VARIABLE = "WHEMDROSK_LIBRARY"
-RECORD_BYTES = 8
+# A record of a delivery: cycle and channel in one number, and the word.
+RECORD = struct.Struct(">II")
+RECORD_BYTES = RECORD.size
+CYCLE_BITS, CHANNEL_BITS, WORD_BITS = 25, 7, 32
 CYCLE_LIMIT = 1 << 20
 # Runs of more cycles are watched, so that their progress can be shown.
 WATCHED = 1 << 16
@@ -34,6 +37,12 @@ def loaded():
     except (OSError, AttributeError) as error:
         raise Fault(f"{path}: it is not the library: {error}") from None
     return shared
+
+
+def recorded(data, number):
+    """Cycle, channel and word of a record of a trace."""
+    head, word = RECORD.unpack_from(data, number * RECORD_BYTES)
+    return head >> CHANNEL_BITS, head & (1 << CHANNEL_BITS) - 1, word
 
 
 def packed(numbers):
@@ -64,8 +73,7 @@ class Trace:
 
     def record(self, number):
         """Cycle, channel and word of a record."""
-        head, word = struct.unpack_from(">II", self.memory, number * RECORD_BYTES)
-        return head >> 7, head & 127, word
+        return recorded(self.memory, number)
 
     def reached(self):
         """The cycle of the last record that is written so far: the first record may be all zeros, no other is."""

@@ -78,21 +78,29 @@ class Net:
         """The channel of each sink, in block order."""
         return [self.blocks[number].inputs[0] for number in self.of_kind(SINK)]
 
+    def ends_out(self, channel):
+        """The ports that a channel leaves: the block and the number of its output."""
+        return [(number, port) for number, block in enumerate(self.blocks) for port, end in enumerate(block.outputs) if end == channel]
+
+    def ends_in(self, channel):
+        """The ports that a channel enters: the block and the number of its input."""
+        return [(number, port) for number, block in enumerate(self.blocks) for port, end in enumerate(block.inputs) if end == channel]
+
     def givers(self, channel):
         """The blocks that put words on a channel, once for each of their ports."""
-        return [number for number, block in enumerate(self.blocks) for port in block.outputs if port == channel]
+        return [number for number, _ in self.ends_out(channel)]
 
     def takers(self, channel):
         """The blocks that take words from a channel, once for each of their ports."""
-        return [number for number, block in enumerate(self.blocks) for port in block.inputs if port == channel]
+        return [number for number, _ in self.ends_in(channel)]
 
     def ports_out(self, channel):
         """The ports that a channel leaves, as messages name them."""
-        return [self.port(number, output_name(block.kind, port)) for number, block in enumerate(self.blocks) for port, end in enumerate(block.outputs) if end == channel]
+        return [self.port(number, output_name(self.blocks[number].kind, port)) for number, port in self.ends_out(channel)]
 
     def ports_in(self, channel):
         """The ports that a channel enters, as messages name them."""
-        return [self.port(number, input_name(block.kind, port)) for number, block in enumerate(self.blocks) for port, end in enumerate(block.inputs) if end == channel]
+        return [self.port(number, input_name(self.blocks[number].kind, port)) for number, port in self.ends_in(channel)]
 
     def port(self, number, name):
         return f"{name} of {self.place(number)}" if name else self.place(number)

@@ -5,6 +5,7 @@ import itertools
 from . import library
 from .faults import Misuse
 from .nets import BUFFERS, Net
+from .refusals import REASONS
 
 
 @dataclasses.dataclass
@@ -61,5 +62,5 @@ def run(net, form, inputs, progress):
     """Runs a net that the library accepts."""
     refusal, cycles, trace = library.run(form, len(net.names), inputs.streams, inputs.masks, progress)
     if refusal:
-        raise Misuse(f"the run is refused ({refusal})")
+        raise Misuse(f"the run is refused ({refusal}): {REASONS[refusal]}")
     return Run(net, inputs, cycles, trace)
