@@ -13,7 +13,7 @@ ghost use Rattle.asking.specs.Endings.{ending_number, ending_at};
 use blocks::Ports;
 
 // How a chain ends: at a block, or where a channel is met again. `Empty`: there is no chain.
-#[derive(Drop)]
+#[derive(Clone, Copy)]
 pub enum Ending {
     Empty,
     IdleSource(u8),
@@ -25,7 +25,7 @@ pub enum Ending {
 }
 
 // Who is asked next: a channel for its word, a channel for readiness, or nobody.
-#[derive(Drop)]
+#[derive(Clone, Copy)]
 pub enum Next {
     Word(u8),
     Ready(u8),

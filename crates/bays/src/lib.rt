@@ -13,21 +13,21 @@ const NO_BAY: u8 = 4;
 const BAY_MASKS: u32 = 16;
 
 // The states of the four bays, each with its own count of cycles. The turn is the number of the bay that `next` asks first: not the bay last served, but the one after it.
-#[derive(Drop)]
+#[derive(Clone, Copy)]
 pub struct Bays {
     pub states: [State; 4],
     pub turn: u8,
 }
 
 // What `fresh_bays` returns: its refusal, or 0, and the record.
-#[derive(Drop)]
+#[derive(Clone, Copy)]
 pub struct FreshBays {
     pub refusal: u8,
     pub bays: Bays,
 }
 
 // What a bay's step returns: its refusal, or 0; the record; a delivery mark and the word for each channel, zero where nothing moved.
-#[derive(Drop)]
+#[derive(Clone, Copy)]
 pub struct BayStepped {
     pub refusal: u8,
     pub bays: Bays,
@@ -36,7 +36,7 @@ pub struct BayStepped {
 }
 
 // What `next` returns: the bay that it served, or 4 for none, and that bay's step.
-#[derive(Drop)]
+#[derive(Clone, Copy)]
 pub struct Turned {
     pub bay: u8,
     pub step: BayStepped,

@@ -31,13 +31,13 @@ const SET_MARKS: u32 = 268;
 const SET_MASKS: u32 = 272;
 
 // The masks of the four bays for calls of `next`: each bay's offer, and its ready mask after it.
-#[derive(Drop)]
+#[derive(Clone, Copy)]
 struct Panel {
     masks: [u32; 8],
 }
 
 // What commands change.
-#[derive(Drop)]
+#[derive(Clone, Copy)]
 struct Trial {
     net: Net,
     bays: Bays,

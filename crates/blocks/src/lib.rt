@@ -5,21 +5,21 @@ pub mod shape;
 pub mod words;
 
 // What a port shows: whether it is valid, and its word, 0 where it is not.
-#[derive(Drop)]
+#[derive(Clone, Copy)]
 pub struct Sig {
     pub valid: bool,
     pub word: u32,
 }
 
 // A block's two registers.
-#[derive(Drop)]
+#[derive(Clone, Copy)]
 pub struct Reg {
     pub word: u32,
     pub marks: u8,
 }
 
 // The number of input and of output ports; Unused for a kind above 10 or an m that its kind does not take.
-#[derive(Drop)]
+#[derive(Clone, Copy)]
 pub enum Ports {
     Count(u8, u8),
     Unused,

@@ -14,7 +14,7 @@ const END_ROOM: usize = 64;
 const HEADER: usize = 12;
 
 // Where the parts of a file lie. good: they do lie in it.
-#[derive(Drop)]
+#[derive(Clone, Copy)]
 struct Places {
     good: bool,
     words_at: usize,
@@ -25,7 +25,7 @@ struct Places {
 }
 
 // The parts of a case: its form lies from byte form_at to byte form_end, the words and the ends stand at the beginning of their lists, and the rest begins at byte rest_at. good: the file is a case.
-#[derive(Drop)]
+#[derive(Clone, Copy)]
 pub struct Case {
     pub good: bool,
     pub form_at: usize,

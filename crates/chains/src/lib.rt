@@ -4,7 +4,7 @@ use asking::Ending;
 pub mod walk;
 
 // What the walk along a chain returns; its channels stand in a lent list.
-#[derive(Drop)]
+#[derive(Clone, Copy)]
 pub struct Walked {
     pub count: usize,
     pub ending: Ending,

@@ -7,14 +7,14 @@ mod gathering;
 pub use gathering::gather;
 
 // What gathering answers: its refusal, or 0, and the number of words.
-#[derive(Drop)]
+#[derive(Clone, Copy)]
 pub struct Gathered {
     pub refusal: u8,
     pub count: usize,
 }
 
 // How two lists of words compare; `Says` (specs/Compare.antt) states what each case says of them.
-#[derive(Drop)]
+#[derive(Clone, Copy)]
 pub enum Compared {
     Equal,
     FirstBegins,

@@ -1,7 +1,7 @@
 // The state of a net and what a step returns. What a cycle means stands in specs/, its laws in proofs/. No code.
 
 // The registers of a net's blocks; entries from the net's size on are 0.
-#[derive(Drop)]
+#[derive(Clone, Copy)]
 pub struct State {
     // How many cycles it has run since it was fresh.
     pub count: u32,
@@ -10,7 +10,7 @@ pub struct State {
 }
 
 // What a step returns: its refusal, or 0; the state; a delivery mark and the word for each channel, zero where nothing moved.
-#[derive(Drop)]
+#[derive(Clone, Copy)]
 pub struct Stepped {
     pub refusal: u8,
     pub state: State,

@@ -85,7 +85,7 @@ fn show_compared<'a>(a: &'a [u32], b: &'a [u32]) {
 // ---- Two calls of gather
 
 // What a call asks for: the channel, and so many entries of its list.
-#[derive(Drop)]
+#[derive(Clone, Copy)]
 struct Wish {
     channel: u8,
     room: usize,

@@ -7,7 +7,7 @@ use nets::Net;
 use stored::{Loading, read};
 
 // What writing a net finds: the form's byte count, that the net is not accepted, or that the buffer is shorter than the form.
-#[derive(Drop)]
+#[derive(Clone, Copy)]
 pub enum Written {
     Bytes(usize),
     Unfit,

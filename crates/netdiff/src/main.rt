@@ -10,21 +10,21 @@ use libc::{STDERR_FILENO, STDOUT_FILENO};
 use std::num::wrapping_add_u64;
 
 // A file that is read: its descriptor, and the argument that names it.
-#[derive(Drop)]
+#[derive(Clone, Copy)]
 struct File {
     fd: i32,
     argument: usize,
 }
 
 // The two files.
-#[derive(Drop)]
+#[derive(Clone, Copy)]
 struct Files {
     first: File,
     second: File,
 }
 
 // A channel's words that were read from a file and are not matched yet: entries `from` to `to` of its list. more: the file has not ended. failed: it could not be read.
-#[derive(Drop)]
+#[derive(Clone, Copy)]
 struct Waiting {
     from: usize,
     to: usize,
@@ -33,7 +33,7 @@ struct Waiting {
 }
 
 // How far two files are compared: what waits of each, how many words are matched, and whether to go on.
-#[derive(Drop)]
+#[derive(Clone, Copy)]
 struct Progress {
     first: Waiting,
     second: Waiting,
@@ -42,7 +42,7 @@ struct Progress {
 }
 
 // How the words that wait in the end compare: an answer of `compare`; how many words its rest has, or the place of a difference; and the two words that differ.
-#[derive(Drop)]
+#[derive(Clone, Copy)]
 struct Ending {
     answer: u8,
     number: usize,
@@ -51,7 +51,7 @@ struct Ending {
 }
 
 // By how many words a list is longer.
-#[derive(Drop)]
+#[derive(Clone, Copy)]
 struct Surplus {
     words: u64,
     failed: bool,

@@ -7,7 +7,7 @@ ghost use Rattle.std.specs.Prelude.{◌≡◌};
 ghost use Rattle.nets.specs.Promises.{Planned};
 ghost use Rattle.nets.specs.Verdict.{number_of};
 
-#[derive(Drop)]
+#[derive(Clone, Copy)]
 pub struct Block {
     pub kind: u8,
     pub m: u8,
@@ -16,7 +16,7 @@ pub struct Block {
     pub ports: [u8; 10],
 }
 
-#[derive(Drop)]
+#[derive(Clone, Copy)]
 pub struct Net {
     // The number of blocks and the number of channels.
     pub size: u8,
@@ -26,7 +26,7 @@ pub struct Net {
 }
 
 // What the check of a net finds, in document 01's order of checking.
-#[derive(Drop)]
+#[derive(Clone, Copy)]
 pub enum Verdict {
     Accepted,
     Field,
@@ -37,7 +37,7 @@ pub enum Verdict {
 }
 
 // The verdict, and of an accepted net: the block that each channel leaves and the one that it enters, and the two orders of its blocks.
-#[derive(Drop)]
+#[derive(Clone, Copy)]
 pub struct Plan {
     pub verdict: Verdict,
     pub producer: [u8; 128],
@@ -47,14 +47,14 @@ pub struct Plan {
 }
 
 // The block at one end of each channel, where ok: every channel has one port on that side.
-#[derive(Drop)]
+#[derive(Clone, Copy)]
 struct Ends {
     ok: bool,
     blocks: [u8; 128],
 }
 
 // The blocks in an order, where ok: every block has its place in it.
-#[derive(Drop)]
+#[derive(Clone, Copy)]
 struct Order {
     ok: bool,
     blocks: [u8; 64],

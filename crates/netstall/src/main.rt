@@ -10,7 +10,7 @@ use stalls::Chain;
 use typed::{FINE, Listed, NO_NUMBER, TOO_LONG, list_in, named, narrowed, number_in, numbers_end};
 
 // The masks of an argument: so many entries of its list, one for each of the first cycles, and the mask of all later cycles. failed: it was none, which was said.
-#[derive(Drop)]
+#[derive(Clone, Copy)]
 struct Masks {
     count: usize,
     rest: u32,
@@ -18,7 +18,7 @@ struct Masks {
 }
 
 // The streams of all arguments: how many words they have, and how many streams there are. failed: one was none, which was said.
-#[derive(Drop)]
+#[derive(Clone, Copy)]
 struct Streams {
     words: usize,
     count: usize,
@@ -26,7 +26,7 @@ struct Streams {
 }
 
 // What is asked: after how many cycles and at which channel, and the masks of the cycles that the lists leave out.
-#[derive(Drop)]
+#[derive(Clone, Copy)]
 struct Question {
     cycles: u32,
     channel: u32,

@@ -12,7 +12,7 @@ use nets::{Net, Verdict};
 use stored::{Loading, read};
 
 // The numbers of the placements that load, ascending; with 0 for the rest, and the number of channels, which says how many digits each has. All 0 beside a refusal.
-#[derive(Drop)]
+#[derive(Clone, Copy)]
 pub struct Listing {
     pub refusal: u8,
     pub channels: u8,

@@ -4,14 +4,14 @@ ghost use Rattle.reader.specs.Bits.{bit_at, field_at};
 ghost use Rattle.reader.specs.Steps.{step_of, step_at};
 
 // What a reader yields: a field's value and the bit position after it, or that the bytes have no such field.
-#[derive(Drop)]
+#[derive(Clone, Copy)]
 pub enum Step {
     Got(u32, usize),
     End,
 }
 
 // A reader over a lent form, with its bit position.
-#[derive(Drop)]
+#[derive(Clone, Copy)]
 pub struct Reader<'a> {
     pub form: &'a [u8],
     pub at: usize,

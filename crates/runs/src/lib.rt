@@ -4,7 +4,7 @@ use cycles::State;
 pub mod many;
 
 // What a run returns: its refusal, or 0; its ending; the cycles done, the records written, and the state.
-#[derive(Drop)]
+#[derive(Clone, Copy)]
 pub struct Run {
     pub refusal: u8,
     pub ending: u8,

@@ -9,7 +9,7 @@ use nets::Net;
 use runs::Run;
 
 // What comes of a form: its refusal; or 0, the cycles done and the records in the trace.
-#[derive(Drop)]
+#[derive(Clone, Copy)]
 pub struct Sampled {
     pub refusal: u8,
     pub cycles: u32,

@@ -3,7 +3,7 @@ pub mod ends;
 pub mod wires;
 
 // What moved in a cycle: a delivery mark and the word for each channel, zero where nothing did.
-#[derive(Drop)]
+#[derive(Clone, Copy)]
 pub struct Moves {
     pub delivered: [u8; 128],
     pub words: [u32; 128],

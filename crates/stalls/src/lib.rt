@@ -4,7 +4,7 @@ use asking::Ending;
 pub mod follow;
 
 // What `follow` returns: its refusal, or 0; how many channels the chain has; which, in order; whether each of them has V (then it lacks R); how the chain ends.
-#[derive(Drop)]
+#[derive(Clone, Copy)]
 pub struct Chain {
     pub refusal: u8,
     pub count: usize,

@@ -35,7 +35,7 @@ const SET_MARKS: u32 = 7;
 const LEND: u32 = 8;
 
 // What commands change.
-#[derive(Drop)]
+#[derive(Clone, Copy)]
 struct Trial {
     net: Net,
     state: State,
