@@ -2,6 +2,8 @@
 // three bays that take turns, of which one is refused.
 // With a file: the calls that it lists. Its numbers have 4 bytes, most significant first: the bytes of a form, how many words, how many ends; then the form, the words, the ends; then
 // commands of three numbers each, a command and what it is given.
+#![tactic(auto)]
+
 ghost use Rattle.std.specs.Prelude.{◌≡◌, ◌+◌, ◌*◌, ◌≤◌, ◌<◌, length};
 
 use bays::{BayStepped, Bays};

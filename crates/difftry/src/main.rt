@@ -1,6 +1,8 @@
 // Gathering and comparing by a run. Without arguments: what the sink of document 01's net takes, in two traces laid beside each other; then calls that are refused.
 // With a file: the two calls of `gather` that it asks for, how what they put compares, and the rest. Its numbers have 4 bytes, most significant first: the bytes of the first trace, its
 // channel, the room of its list; the same of the second; then the first trace and the second.
+#![tactic(auto)]
+
 ghost use Rattle.std.specs.Prelude.{◌≡◌, ◌+◌, ◌≤◌, length};
 ghost use Rattle.io.specs.Counts.{IsPrefixLen};
 

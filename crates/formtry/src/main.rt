@@ -1,4 +1,6 @@
 // Runs of document 01 on the stored form: its 18 bytes there and back, 64 blocks and 65, single bytes, and forms of the longest lengths.
+#![tactic(auto)]
+
 ghost use Rattle.std.specs.Prelude.{◌≡◌, length};
 
 use forms::Written;

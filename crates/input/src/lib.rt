@@ -1,4 +1,6 @@
 // Input of programs: a stored net, which is the bytes of the file that the first argument names, or of standard input where there is none; and the next bytes of an open file.
+#![tactic(auto)]
+
 ghost use Rattle.io.specs.Counts.{IsPrefixLen};
 
 use libc::{STDERR_FILENO, STDIN_FILENO};

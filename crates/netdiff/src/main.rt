@@ -2,6 +2,8 @@
 // It reads the files in blocks of whole records, whose words one after another are those of the whole (`words-blocks`, compare/proofs/Words.antt). A channel's words of a block wait in a list
 // until the other trace has matched them, and the next block of a file is read when its list is used up. So the words passed over are those that both begin with, and passing over them
 // changes nothing but the place of a difference (`passed_over`, compare/proofs/Meaning.antt).
+#![tactic(auto)]
+
 ghost use Rattle.std.specs.Prelude.{◌≡◌, ◌+◌, ◌<◌, ◌≤◌, length};
 ghost use Rattle.netdiff.specs.Waits.{Within};
 

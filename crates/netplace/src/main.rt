@@ -1,4 +1,6 @@
 // Lists the placements of a stored net that load: of the file that the first argument names, or of standard input. The codes of each as digits, channel 0 first, a line each.
+#![tactic(auto)]
+
 ghost use Rattle.std.specs.Prelude.{◌≤◌, length};
 
 use libc::STDOUT_FILENO;

@@ -1,4 +1,6 @@
 // Runs a stored net, from the file that the first argument names or from standard input, for 6 cycles over 1, 2, 3 for every source, and prints each delivery.
+#![tactic(auto)]
+
 ghost use Rattle.std.specs.Prelude.{◌*◌, ◌≤◌, length};
 
 use libc::STDOUT_FILENO;

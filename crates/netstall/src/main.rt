@@ -1,5 +1,7 @@
 // Follows a stall of a stored net to its cause: `netstall FORM CYCLE CHANNEL [offer=MASKS] [ready=MASKS] [STREAM..]` runs the net for CYCLE cycles from its fresh state, and then prints the chain
 // of waiting channels that begins at CHANNEL, a line each, and how it ends. All arguments are read before anything is run.
+#![tactic(auto)]
+
 ghost use Rattle.std.specs.Prelude.{◌≡◌, ◌≤◌, length};
 ghost use Rattle.nets.specs.Verdict.{Joined};
 

@@ -1,5 +1,7 @@
 // Placements by a run. Without arguments: refusals and lists of net values. With a form's file: every placement of its net, a line each, with the placed net's form or the
 // refusal. With codes too, as digits: that placement alone.
+#![tactic(auto)]
+
 ghost use Rattle.std.specs.Prelude.{◌≤◌};
 
 use forms::Written;

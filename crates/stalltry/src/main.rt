@@ -1,6 +1,8 @@
 // Chains of waiting channels by a run. Without arguments: a source, a fork of 2 and two sinks, asked while all goes, while a sink stalls, while the source is idle, and where the question is
 // refused. With a file: the calls that it lists. Its numbers have 4 bytes, most significant first: the bytes of a form, how many words, how many ends; then the form, the words, the ends; then
 // commands of four numbers each, a command and what it is given.
+#![tactic(auto)]
+
 ghost use Rattle.std.specs.Prelude.{◌≡◌, ◌+◌, ◌*◌, ◌≤◌, ◌<◌, length};
 
 use cycles::State;

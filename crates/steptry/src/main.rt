@@ -1,4 +1,6 @@
 // Steps of one net by a run: a source, a fork of 2 and two sinks, where the second sink refuses for some cycles. Each word goes out once on each branch.
+#![tactic(auto)]
+
 ghost use Rattle.std.specs.Prelude.{◌≡◌};
 
 use cycles::{State, Stepped};

@@ -1,4 +1,6 @@
 // What a person types: decimal numbers, lists of them with commas between, and arguments that begin with a name.
+#![tactic(auto)]
+
 ghost use Rattle.std.specs.Prelude.{◌≡◌, cond, ◌≤◌, ltb, length};
 
 // A list of numbers that was read: how many there are now, and what was wrong with its text.
