@@ -25,7 +25,7 @@ def short(s):
 
 class Function:
     def __init__(self, path, info):
-        self.path, self.info, self.looks, self.helpers = path, info, [], {}
+        self.path, self.info, self.looks, self.helpers, self.goal = path, info, [], {}, None
         self.places = {norm(p[0]): i for i, p in enumerate(info["places"])}
         self.new_place = {norm(p[0]): n for p, n in zip(info["places"], info["places_by_name"])}
         self.needs = {}
@@ -184,13 +184,21 @@ def convert_body(f, body, places):
             b = arg.split(".")[0]
             target = norm(types[k]) if k < len(types) else None
             names = [norm(f.info["places"][i][0]) for i in f.chain(base[b])]
-            if target in names:
+            if target in names and names.index(target) == 0:
+                new.append("\x05" + b)
+            elif target in names and f.goal:
+                new.append(f"\x05(goal.at.{f.goal} {b}).{f.new_place[target]}")
+            elif target in names:
                 new.append("\x05" + b + ".before" * names.index(target))
+                f.look(f"place in a lemma: {m[1]} {arg}: {target} from {base[b]}")
             else:
                 new.append("\x05" + arg)
                 f.look(f"bare place: {m[1]} {arg}: {target} from {base[b]}")
         return m[1] + "".join(" " + n for n in new)
 
+    for h in f.helpers:
+        for b in base:
+            done = re.sub(rf"(?<![\w.'-]){re.escape(h)} {re.escape(b)}(?![\w.'′₀-])", f"{h} \x03{b}\x04", done)
     done = re.sub(rf"({NAME})((?: \x03[^\x04]*\x04)+)", placed, done)
     # a call such as `(helper c.before)`: the place goes on as a field
     if "\x03" in done:

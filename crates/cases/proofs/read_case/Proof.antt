@@ -2,7 +2,7 @@
 -- Assumes nothing.
 use native.Mathlib.Omega.{arith}
 use borrow.Author.Rules.{rules}
-use borrow.Author.Tests.{not_false}
+use borrow.Author.Tests.{not-false}
 use Rattle.cases.proofs.read_case.Statement.{statement}
 use Rattle.cases.proofs.read_case.Tie as tie
 
@@ -46,7 +46,7 @@ returns-2 c =
       few-ends = omega (arith, lies.few-ends);
       words_long = after-words.numbers-in.ensures;
       ends-long = c.numbers-in2.ensures;
-      form = lies.words (not_false _ at-good.if1.false);
+      form = lies.words (not-false _ at-good.if1.false);
       form-inside = omega (arith, lies.ends, lies.rest, lies.inside);
       rest-inside = lies.inside;
     }

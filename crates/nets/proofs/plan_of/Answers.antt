@@ -4,7 +4,7 @@
 use mathlib.Core.Path.{◌≡◌, refl, sym, ◌∙◌}
 use mathlib.Core.Bool.{true, false}
 use native.Mathlib.Omega.{arith}
-use borrow.Author.Tests.{not-true, not_false}
+use borrow.Author.Tests.{not-true, not-false}
 use Rattle.nets.specs.Net.{connected}
 use Rattle.nets.specs.Verdict.{Joined}
 use Rattle.nets.specs.Promises.{Table, InOrder}
@@ -27,7 +27,7 @@ abbrev net_1 : goal.Else-not-read_net → Net
 net_1 c = c.args.net
 
 known : (c : goal.Else-not-read_net) → Fielded (net_1 c) c.read_net.new.1.0
-known c = fielded _ _ _ (search (not_false)) c.read_net.ensures
+known c = fielded _ _ _ (search (not-false)) c.read_net.ensures
 
 pub ends_of-from-requires : goal.ends_of-from-requires
 ends_of-from-requires c =
@@ -47,7 +47,7 @@ fields_2 c = c.before.before.before.before.before.before
 producers : (c : goal.Else-not-from) → Table (net_1 (fields_2 c)) true c.ends_of-from.result.blocks
 producers c =
     let k = known (fields_2 c) in
-    table_of _ _ k.all_rows k.fields true _ _ c.ends_of-from.ensures (search (not_false))
+    table_of _ _ k.all_rows k.fields true _ _ c.ends_of-from.ensures (search (not-false))
 
 pub ends_of-to-requires : goal.ends_of-to-requires
 ends_of-to-requires c =
@@ -70,14 +70,14 @@ net_3 c = net_1 (fields_2 (from_3 c))
 consumers : (c : goal.Else-not-to) → Table (net_3 c) false c.ends_of-to.result.blocks
 consumers c =
     let k = known (fields_2 (from_3 c)) in
-    table_of _ _ k.all_rows k.fields false _ _ c.ends_of-to.ensures (search (not_false))
+    table_of _ _ k.all_rows k.fields false _ _ c.ends_of-to.ensures (search (not-false))
 
 joins : (c : goal.Else-not-to) → connected (net_3 c) ≡ true
 joins c =
-    both_joined _ _ (known (fields_2 (from_3 c))) _ _ _ _ (go (from_3 c)) (search (not_false)) (from_3 c).before.before.ends_of.ensures c.ends_of-to.ensures
+    both_joined _ _ (known (fields_2 (from_3 c))) _ _ _ _ (go (from_3 c)) (search (not-false)) (from_3 c).before.before.ends_of.ensures c.ends_of-to.ensures
   where
     go : (d : tie.Else2) → d.before.before.ends_of.result.ok ≡ true
-    go d = search (not_false)
+    go d = search (not-false)
 
 pub few_ends-requires : goal.few_ends-requires
 few_ends-requires c = (ends-needs _ _ (known (fields_2 (from_3 c.before)))).0
@@ -101,7 +101,7 @@ joined c =
     record {
       fields = k.fields;
       joins = joins (joins_4 c);
-      ends = sym (few_same _ _ k.all_rows) ∙ sym c.few_ends.ensures ∙ search (not_false);
+      ends = sym (few_same _ _ k.all_rows) ∙ sym c.few_ends.ensures ∙ search (not-false);
     }
 
 pub order_of-data-requires : goal.order_of-data-requires
@@ -123,7 +123,7 @@ joined_5 c = c.before.before.before.before.before.before
 forth : (c : goal.Else-not-data) → InOrder (net_4 (joined_5 c)) false c.order_of-data.result.blocks
 forth c =
     let e = from_3 (joins_4 (joined_5 c)) in
-    order_is _ _ (known (fields_2 e)) _ (producers e) false _ _ c.order_of-data.ensures (search (not_false))
+    order_is _ _ (known (fields_2 e)) _ (producers e) false _ _ c.order_of-data.ensures (search (not-false))
 
 pub order_of-control-requires : goal.order_of-control-requires
 order_of-control-requires c =
@@ -149,7 +149,7 @@ forth_6 c = c.before.before.before.before.before
 back : (c : goal.Else-not-control) → InOrder (net_4 (joined_5 (forth_6 c))) true c.order_of-control.result.blocks
 back c =
     let e = from_3 (joins_4 (joined_5 (forth_6 c))) in
-    order_is _ _ (known (fields_2 e)) _ (producers e) true _ _ c.order_of-control.ensures (search (not_false))
+    order_is _ _ (known (fields_2 e)) _ (producers e) true _ _ c.order_of-control.ensures (search (not-false))
 
 pub returns : goal.returns
 returns c =

@@ -3,7 +3,7 @@
 use mathlib.Core.Path.{sym, ◌∙◌}
 use mathlib.Core.Bool.{true}
 use Prim.Native.Nat.{◌-◌}
-use borrow.Author.Tests.{not-true, not_false}
+use borrow.Author.Tests.{not-true, not-false}
 use Rattle.nets.specs.Block.{port_ok, ports_ok}
 use Rattle.blocks.proofs.Folds.{all_none, all_more, all_fails, all_less}
 use Rattle.nets.proofs.fields.ports_ok.Goals as goal
@@ -16,7 +16,7 @@ unfolding ports_ok
 returns-then-not-port_ok c = sym (all_fails _ 10 c.loop-i.i c.loop-i-test.true (sym c.port_ok.ensures ∙ search (not-true)))
 
 pub loop-i-preserved : goal.loop-i-preserved
-loop-i-preserved c = all_more _ c.loop-i.i c.loop-i.invariant (sym c.port_ok.ensures ∙ search (not_false))
+loop-i-preserved c = all_more _ c.loop-i.i c.loop-i.invariant (sym c.port_ok.ensures ∙ search (not-false))
 
 pub returns : goal.returns
 unfolding ports_ok

@@ -2,7 +2,7 @@
 -- Assumes nothing.
 use mathlib.Core.Path.{sym, ◌∙◌}
 use native.Mathlib.Omega.{arith}
-use borrow.Author.Tests.{not-true, not_false}
+use borrow.Author.Tests.{not-true, not-false}
 use Rattle.blocks.proofs.Counts.{count_small}
 use Rattle.nets.proofs.Blocks.{block-unused, block-value, block-ports}
 use Rattle.nets.proofs.Rows.{read_none, row_of}
@@ -20,7 +20,7 @@ overflow_add-all c =
 pub returns-then-not-ports_ok : goal.returns-then-not-ports_ok
 returns-then-not-ports_ok c =
     read_none _ _ _ _ _ c.requires.rows_len
-    (sym (block-ports _ _ _ _ (sym c.ports_of-p.ensures ∙ c.in-Count.is) (sym c.value_ok.ensures ∙ search (not_false)))
+    (sym (block-ports _ _ _ _ (sym c.ports_of-p.ensures ∙ c.in-Count.is) (sym c.value_ok.ensures ∙ search (not-false)))
     ∙ sym c.ports_ok.ensures ∙ search (not-true))
 
 pub returns-in-Unused : goal.returns-in-Unused
@@ -31,8 +31,8 @@ pub returns-else-not-ports_ok : goal.returns-else-not-ports_ok
 returns-else-not-ports_ok c =
     let e = sym c.ports_of-p.ensures ∙ c.in-Count.is in
     record {
-      answer = sym (sym (block-ports _ _ _ _ e (sym c.value_ok.ensures ∙ search (not_false)))
-          ∙ sym c.ports_ok.ensures ∙ search (not_false));
+      answer = sym (sym (block-ports _ _ _ _ e (sym c.value_ok.ensures ∙ search (not-false)))
+          ∙ sym c.ports_ok.ensures ∙ search (not-false));
       wrote = c.write_row.ensures.wrote;
       row = λ u t. row_of _ _ _ _ _ e c.write_row.ensures.row;
     }

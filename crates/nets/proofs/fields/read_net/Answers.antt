@@ -3,7 +3,7 @@
 -- Assumes nothing.
 use mathlib.Core.Path.{sym, ◌∙◌}
 use Prim.Native.Nat.{◌-◌}
-use borrow.Author.Tests.{not-true, not_false}
+use borrow.Author.Tests.{not-true, not-false}
 use Rattle.nets.proofs.Rows.{reading_start, reading_step, net_sizes, net_entry, net_read}
 use Rattle.nets.proofs.fields.read_net.Goals as goal
 
@@ -19,8 +19,8 @@ returns-then-not-read_entry c =
 
 pub loop-i-preserved : goal.loop-i-preserved
 loop-i-preserved c =
-    reading_step _ c.loop-i.i _ _ _ c.loop-i.invariant (search (not_false)) c.read_entry.ensures
+    reading_step _ c.loop-i.i _ _ _ c.loop-i.invariant (search (not-false)) c.read_entry.ensures
 
 pub returns : goal.returns
 returns c =
-    net_read _ c.loop-i.i _ (sym c.sizes_ok.ensures ∙ search (not_false)) c.loop-i-test.false c.loop-i.invariant
+    net_read _ c.loop-i.i _ (sym c.sizes_ok.ensures ∙ search (not-false)) c.loop-i-test.false c.loop-i.invariant

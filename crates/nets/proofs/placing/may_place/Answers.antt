@@ -6,7 +6,7 @@ use Prim.Native.Nat.{◌<◌, ◌-◌}
 use native.Mathlib.Omega.{arith}
 use lib.Dec.{leb}
 use lib.ListN.{get_or}
-use borrow.Author.Tests.{not-true, not_false}
+use borrow.Author.Tests.{not-true, not-false}
 use Rattle.blocks.proofs.Folds.{all_none, all_more}
 use Rattle.nets.specs.Rows.{row_port}
 use Rattle.nets.specs.Order.{feeder, unplaced}
@@ -65,7 +65,7 @@ pub overflow_add-c-in-loop-j : goal.overflow_add-c-in-loop-j
 overflow_add-c-in-loop-j c = omega (arith, feeds c)
 
 pub bounds-rows-base-in-loop-j : goal.bounds-rows-base-in-loop-j
-bounds-rows-base-in-loop-j c = omega (arith, feeds c)
+bounds-rows-base-in-loop-j c = omega (arith, feeds c.before)
 
 pub overflow_cast-c : goal.overflow_cast-c
 overflow_cast-c c = omega (arith, feeds c.before.before)
@@ -96,7 +96,7 @@ pub loop-j-preserved : goal.loop-j-preserved
 loop-j-preserved c =
     let a = c.args in
     all_more _ c.loop-j.j c.loop-j.invariant
-    (within_fed a.control a.rows.now a.producer.now a.limit a.b a.places.now c.loop-j.j (sym (fed_is c.before) ∙ search (not_false)))
+    (within_fed a.control a.rows.now a.producer.now a.limit a.b a.places.now c.loop-j.j (sym (fed_is c.before) ∙ search (not-false)))
 
 pub returns : goal.returns
 returns c =

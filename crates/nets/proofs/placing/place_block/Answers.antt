@@ -4,7 +4,7 @@ use mathlib.Core.Path.{◌≡◌}
 use mathlib.Core.Bool.{true}
 use Prim.Native.Nat.{◌<◌}
 use native.Mathlib.Omega.{arith}
-use borrow.Author.Tests.{not-true, not_false}
+use borrow.Author.Tests.{not-true, not-false}
 use Rattle.nets.specs.Order.{next_at}
 use Rattle.nets.proofs.Orders.{feeds_more, next-yes, stepped-place, stepped-placed, stepped-waits, room}
 use Rattle.nets.proofs.placing.place_block.Goals as goal
@@ -32,7 +32,7 @@ next : (c : goal.Else-not-may_place)
 next c =
     let a = c.args in
     next-yes a.control a.rows.now a.producer.now a.limit a.b a.places.now _ c.if-places-b-ne0.false
-    c.may_place.ensures (search (not_false))
+    c.may_place.ensures (search (not-false))
 
 -- and there is room for it
 has_room : (c : goal.Else-not-may_place) → c.args.count < c.args.size
@@ -44,20 +44,20 @@ pub overflow_cast-blocks : goal.overflow_cast-blocks
 overflow_cast-blocks c = omega arith
 
 pub bounds-blocks-count : goal.bounds-blocks-count
-bounds-blocks-count c = omega (arith, has_room c)
+bounds-blocks-count c = omega (arith, has_room c.before)
 
 pub overflow_cast-places : goal.overflow_cast-places
-overflow_cast-places c = omega (arith, has_room c)
+overflow_cast-places c = omega (arith, has_room c.before)
 
 pub overflow_add-places : goal.overflow_add-places
-overflow_add-places c = omega (arith, has_room c)
+overflow_add-places c = omega (arith, has_room c.before)
 
 pub bounds-places-b-2 : goal.bounds-places-b-2
 bounds-places-b-2 c = omega arith
 
 pub overflow_add-result : goal.overflow_add-result
-overflow_add-result c = omega (arith, has_room c)
+overflow_add-result c = omega (arith, has_room c.before.before)
 
 pub returns : goal.returns
 returns c =
-    stepped-place _ _ _ _ _ _ _ _ _ c.requires.progress c.requires.size_bound c.requires.b_lt_size c.requires.feeds (next c)
+    stepped-place _ _ _ _ _ _ _ _ _ c.requires.progress c.requires.size_bound c.requires.b_lt_size c.requires.feeds (next c.before.before)

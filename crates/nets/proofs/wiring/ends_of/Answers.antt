@@ -3,7 +3,7 @@
 use mathlib.Core.Path.{◌≡◌, refl, subst}
 use Prim.Native.Nat.{ℕ, ◌-◌, ◌*◌}
 use native.Mathlib.Omega.{arith}
-use borrow.Author.Tests.{not-true, not_false}
+use borrow.Author.Tests.{not-true, not-false}
 use Rattle.nets.specs.Ends.{Entries}
 use Rattle.nets.proofs.EndTables.{entries_start, filled_next, ends_clash, ends-whole}
 use Rattle.nets.proofs.wiring.ends_of.Goals as goal
@@ -32,7 +32,7 @@ loop-i-smaller c = omega arith
 
 pub loop-i-preserved : goal.loop-i-preserved
 loop-i-preserved c =
-    (omega arith, c.fill_block.ensures.table_len_2, filled_next _ _ _ _ _ (search (not_false)) c.fill_block.ensures.filled)
+    (omega arith, c.fill_block.ensures.table_len_2, filled_next _ _ _ _ _ (search (not-false)) c.fill_block.ensures.filled)
 
 pub returns : goal.returns
 returns c =

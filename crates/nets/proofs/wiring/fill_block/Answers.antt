@@ -49,7 +49,7 @@ pub overflow_add-c-in-loop-j : goal.overflow_add-c-in-loop-j
 overflow_add-c-in-loop-j c = omega (arith, port_in c)
 
 pub bounds-rows-base-in-loop-j : goal.bounds-rows-base-in-loop-j
-bounds-rows-base-in-loop-j c = omega (arith, port_in c)
+bounds-rows-base-in-loop-j c = omega (arith, port_in c.before)
 
 pub overflow_cast-c : goal.overflow_cast-c
 overflow_cast-c c = omega (arith, port_in c.before.before)

@@ -71,7 +71,7 @@ pub overflow_add-b : goal.overflow_add-b
 overflow_add-b c = omega (arith, c.requires.kind_bound, few c)
 
 pub bounds-lists-first : goal.bounds-lists-first
-bounds-lists-first c = omega (arith, c.requires.kind_bound, few c)
+bounds-lists-first c = omega (arith, c.requires.kind_bound, few c.before)
 
 pub overflow_cast-b : goal.overflow_cast-b
 overflow_cast-b c = omega (arith, small c.before.before)

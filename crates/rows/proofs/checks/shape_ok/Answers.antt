@@ -5,7 +5,7 @@ use mathlib.Core.Path.{◌≡◌, sym, ◌∙◌}
 use Prim.Native.Nat.{◌-◌}
 use native.Mathlib.Omega.{arith}
 use lib.Dec.{leb}
-use borrow.Author.Tests.{not-true, not_false, le-leb, lt-leb}
+use borrow.Author.Tests.{not-true, not-false, le-leb, lt-leb}
 use Rattle.blocks.specs.Folds.{all_below}
 use Rattle.rows.specs.Checks.{entry_in, shape_no}
 use Rattle.blocks.proofs.Folds.{all_more, all_fails, all_none, all_less}
@@ -48,7 +48,7 @@ pub loop-b-preserved : goal.loop-b-preserved
 loop-b-preserved c =
     let a = c.args in
     let l = c.loop-b in
-    (omega arith, all_more (entry_in a.rows.now a.n a.state) l.b l.invariant.1 (sym c.entry_ok.ensures ∙ not_false _ c.if-not-entry_ok.false))
+    (omega arith, all_more (entry_in a.rows.now a.n a.state) l.b l.invariant.1 (sym c.entry_ok.ensures ∙ not-false _ c.if-not-entry_ok.false))
 
 pub returns : goal.returns
 unfolding shape_no

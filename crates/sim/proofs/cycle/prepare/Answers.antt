@@ -6,7 +6,7 @@ use mathlib.Core.List.{List}
 use Prim.Native.Nat.{ℕ}
 use native.Mathlib.Omega.{arith}
 use borrow.Author.Rules.{rules}
-use borrow.Author.Tests.{not-true, not_false}
+use borrow.Author.Tests.{not-true, not-false}
 use Rattle.cycles.specs.State.{shape_ok}
 use Rattle.cycles.specs.Streams.{ends_fit}
 use Rattle.nets.proofs.Nets.{size-high}
@@ -84,7 +84,7 @@ pub returns-then-not-ends_fit : goal.returns-then-not-ends_fit
 returns-then-not-ends_fit c =
     let laid = laid_before c.before in
     let given = (start laid).args in
-    let shape = state-tested c.before.before.before.before.before.before ∙ not_false _ c.if-not-shape_ok.false in
+    let shape = state-tested c.before.before.before.before.before.before ∙ not-false _ c.if-not-shape_ok.false in
     record {
       flat = laid.flatten.ensures;
       kinds = c.sort_kinds-sorted.ensures;
@@ -95,9 +95,9 @@ pub returns : goal.returns
 returns c =
     let laid = laid_before c.before in
     let given = (start laid).args in
-    let shape = state-tested c.before.before.before.before.before.before ∙ not_false _ c.if-not-shape_ok.false in
+    let shape = state-tested c.before.before.before.before.before.before ∙ not-false _ c.if-not-shape_ok.false in
     record {
       flat = laid.flatten.ensures;
       kinds = c.sort_kinds-sorted.ensures;
-      tested = tested_0 given.net given.state given.stream.now given.ends.now shape (ends-tested c.before ∙ not_false _ c.if-not-ends_fit.false);
+      tested = tested_0 given.net given.state given.stream.now given.ends.now shape (ends-tested c.before ∙ not-false _ c.if-not-ends_fit.false);
     }

@@ -4,7 +4,7 @@ use Prim.Native.Nat.{◌+◌, ◌≤◌}
 use mathlib.Core.Path.{refl, ap, sym, ◌∙◌}
 use mathlib.Core.Bool.{Bool, true, false}
 use native.Mathlib.Omega.{arith}
-use borrow.Author.Tests.{not-true, not_false}
+use borrow.Author.Tests.{not-true, not-false}
 use lib.ListN.{get_or}
 use Rattle.chains.specs.Chain.{none_met, Trail, chain_from}
 use Rattle.chains.specs.Rows.{Seen, seen, next_no, unmet, trail_no}
@@ -44,7 +44,7 @@ returns-then-not-valid-at c =
 
 pub returns-then-ready-at : goal.returns-then-ready-at
 returns-then-ready-at c =
-    let delivers = from-delivers (next_no (cycle c.before.before.before.before.before.before.before)) (has_word c.before.before.before.before.before.before.before) (is_ready c.before.before.before.before.before.before.before) c.args.c (not_false (has_word c.before.before.before.before.before.before.before) c.if-not-valid-at.false) c.if-ready-at.true in
+    let delivers = from-delivers (next_no (cycle c.before.before.before.before.before.before.before)) (has_word c.before.before.before.before.before.before.before) (is_ready c.before.before.before.before.before.before.before) c.args.c (not-false (has_word c.before.before.before.before.before.before.before) c.if-not-valid-at.false) c.if-ready-at.true in
     c.no_chain.ensures ∙ ap (chain_by (λ x. get_or c.args.valid.now x false)) (sym delivers)
 
 pub ask_ready-walked-requires : goal.ask_ready-walked-requires
@@ -57,4 +57,4 @@ ask_ready-walked-requires c =
 pub returns : goal.returns
 returns c =
     answered c.args.valid.now (chain c.before.before.before.before.before.before.before.before.before.before) (trail_no (cycle c.before.before.before.before.before.before.before.before.before.before) none_met false c.args.c) _ _ c.ask_ready-walked.result
-    (from-ready (next_no (cycle c.before.before.before.before.before.before.before.before.before.before)) (has_word c.before.before.before.before.before.before.before.before.before.before) (is_ready c.before.before.before.before.before.before.before.before.before.before) c.args.c (not_false (has_word c.before.before.before.before.before.before.before.before.before.before) c.if-not-valid-at.false) c.if-ready-at.false) c.ask_ready-walked.ensures
+    (from-ready (next_no (cycle c.before.before.before.before.before.before.before.before.before.before)) (has_word c.before.before.before.before.before.before.before.before.before.before) (is_ready c.before.before.before.before.before.before.before.before.before.before) c.args.c (not-false (has_word c.before.before.before.before.before.before.before.before.before.before) c.if-not-valid-at.false) c.if-ready-at.false) c.ask_ready-walked.ensures

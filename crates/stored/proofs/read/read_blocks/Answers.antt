@@ -7,7 +7,7 @@ use mathlib.Core.Path.{refl, sym, ◌∙◌, ap}
 use mathlib.Core.List.{List, [], ◌∷◌, ◌++◌}
 use lib.ListN.{set, drop, replicate, length-append}
 use borrow.Author.Rules.{rules}
-use borrow.Author.Tests.{not-true, not_false}
+use borrow.Author.Tests.{not-true, not-false}
 use Rattle.reader.specs.Bits.{bits_of}
 use Rattle.nets.specs.declared.Block.{Block}
 use Rattle.stored.specs.Form.{take_block, padded, zero_block}
@@ -76,4 +76,4 @@ returns c =
     let whole = l.invariant.4.3 ∙ many_end (take_block a.channels) l.invariant.4.0 (a.count - l.i) (drop l.at (bits_of a.form.now)) (omega arith) in
     ap (λ (bs : List Block). loaded_with a.count a.channels bs) l.invariant.4.2
     ∙ blocks-loaded a.count a.channels (drop 32 (bits_of a.form.now)) l.invariant.4.0 (drop l.at (bits_of a.form.now)) whole
-    (sym c.blank_from.ensures ∙ not_false _ c.if-not-blank_from.false)
+    (sym c.blank_from.ensures ∙ not-false _ c.if-not-blank_from.false)
