@@ -8,7 +8,10 @@ record of the clauses' names; an answer that only searches goes. A line 'look:' 
 import json
 import os
 import re
+import subprocess
 import sys
+
+BEFORE = "132f1cc"
 
 NAME = r"[^\s(){}.;,@\"«»\[\]\\:]+"
 OWN = {"args", "requires", "ranges", "well-formed", "initial"}
@@ -28,6 +31,7 @@ class Function:
         self.path, self.info, self.looks, self.helpers, self.goal = path, info, [], {}, None
         self.places = {norm(p[0]): i for i, p in enumerate(info["places"])}
         self.new_place = {norm(p[0]): n for p, n in zip(info["places"], info["places_by_name"])}
+        self.raw, self.views, self.used_places = None, set(), []
         self.needs = {}
         for i, (old, new) in enumerate(info["needs"]):
             self.needs[short(old)] = (new, info["asked_at"][i][0] if i < len(info["asked_at"]) else None)
@@ -90,6 +94,13 @@ class Function:
                     return None
                 self.look("arm: " + ".".join(fields) + " " + json.dumps(arm))
                 return [arm[0]] + rest
+            params = self.info["params"].get(self.info["places"][i][3] or "")
+            if rest and rest[0] == "new" and len(rest) > 1 and params:
+                k = 1
+                while k < len(rest) and rest[k] == "1":
+                    k += 1
+                if k < len(rest) and rest[k] == "0" and k - 1 < len(params):
+                    rest = ["new", params[k - 1]] + rest[k + 1:]
             if rest and rest[0] == "ensures" and self.info["clauses"][i]:
                 labels = self.info["clauses"][i]["fields"]
                 if len(labels) == 1:
@@ -184,7 +195,10 @@ def convert_body(f, body, places):
             b = arg.split(".")[0]
             target = norm(types[k]) if k < len(types) else None
             names = [norm(f.info["places"][i][0]) for i in f.chain(base[b])]
-            if target in names and names.index(target) == 0:
+            if f.raw and target in names:
+                steps = names.index(target) + (1 if f.goal and f.new_place[norm(base[b])] in f.views else 0)
+                new.append("\x05" + b + ".before" * steps)
+            elif target in names and names.index(target) == 0:
                 new.append("\x05" + b)
             elif target in names and f.goal:
                 new.append(f"\x05(goal.at.{f.goal} {b}).{f.new_place[target]}")
@@ -298,11 +312,40 @@ def decl_name(lines):
     return ""
 
 
-def turn(crate, folder, path, info):
+def generated(folder, loops):
+    """How a place's record is written in full, from what the check generates: the arguments behind its name."""
+    try:
+        with open(os.path.join(folder, "Lts", "View.antt"), encoding="utf-8") as it:
+            m = max(re.finditer(r"Lts\.[\w'-]+((?:\s+the-[\w'μ-]+)+)", it.read()), key=lambda m: len(m[1].split()), default=None)
+    except OSError:
+        return None
+    if not m:
+        return None
+    full = {"the-claims": "tie.the-claims", "the-Pre": "reads.Pre", "the-Post": "reads.Post", "the-clauses": "tie.handed_clauses"}
+    for k, loop in enumerate(loops):
+        full[f"the-Inv-{k}"] = f"goal.the-invariant-{loop}"
+        full[f"the-μ-{k}"] = f"goal.the-decreases-{loop}"
+    with open(os.path.join(folder, "Goals.antt"), encoding="utf-8") as it:
+        places = dict(re.findall(r"(?m)^abbrev pub (\S+) : Type 0\n\S+ =\s+(View\.In-|Lts\.)", it.read()))
+    with open(os.path.join(folder, "Lts", "View.antt"), encoding="utf-8") as it:
+        views = {v for v in re.findall(r"pub record In-(\S+) :", it.read()) if places.get(v) != "Lts."}
+    return " ".join(full.get(a, a) for a in m[1].split() if a != "the-before"), views
+
+
+def turn(crate, folder, path, info, raw=None):
     source = os.path.join(folder, "Proof.antt")
-    with open(source, encoding="utf-8") as it:
-        head, uses, decls = blocks_of(it.read())
+    if os.path.exists(source):
+        with open(source, encoding="utf-8") as it:
+            text = it.read()
+    else:
+        text = subprocess.run(["git", "show", f"{BEFORE}:{source}"], check=True, capture_output=True, text=True).stdout
+        text = re.sub(r"(borrow.Author.Tests.\{.*)not_false", r"\1not-false", text)
+        if "borrow.Author.Tests.{" in text and "not-false" in text:
+            text = re.sub(r"\bnot_false\b", "not-false", text)
+    head, uses, decls = blocks_of(text)
     f = Function(path, info)
+    if raw:
+        f.raw, f.views = raw
     module = f"Rattle.{crate}.proofs.{path}"
     uses = [u for u in uses if not re.match(rf"use {re.escape(module)}\.(Statement|Tie|Goals|Given)\b", u)]
     loops = {norm(a): (b, v, c) for ((a, b), v), c in zip(info["loops"], info["changed"])}
@@ -364,7 +407,9 @@ def turn(crate, folder, path, info):
             if body.strip() == "search rules" or new in info["settled"]:
                 continue
             places = {binders[0]: place} if binders else {}
+            f.goal = new
             body = convert_body(f, body, places)
+            f.goal = None
             asked = {short(k): v for k, v in info["asked"].items()} if isinstance(info["asked"], dict) else {}
             labels = asked.get(key)
             if labels and len(labels) > 1:
@@ -376,7 +421,15 @@ def turn(crate, folder, path, info):
         for p in re.finditer(rf"(?:\(({NAME}) : )?tie\.({NAME})(?: [^()→]*)?", kind):
             places[p[1] or f"c{len(places)}"] = p[2]
         if "tie." in kind:
-            kind = re.sub(rf"tie\.({NAME})((?: (?:invariant|decreases)_{NAME})*)", lambda p: "goal." + f.new_place.get(norm(p[1]), p[1]), kind)
+            def place_type(p):
+                new = f.new_place.get(norm(p[1]), p[1])
+                if f.raw:
+                    f.used_places.append((norm(p[1]), new))
+                    return new
+                return "goal." + new
+
+            places_named = rf"tie\.({NAME})((?: (?:invariant|decreases)_{NAME})*)"
+            kind = re.sub(places_named, place_type, kind)
             kind = convert_body(f, kind, places) if places else kind
             c = re.match(rf"{re.escape(name)} ({NAME})", rest)
             by_order = {}
@@ -388,7 +441,7 @@ def turn(crate, folder, path, info):
                         by_order[q] = p
             result = re.search(rf"tie\.({NAME})(?: (?:invariant|decreases)_{NAME})*$", m[2].strip())
             f.helpers["="] = [result[1]] if result else []
-            rest = convert_body(f, rest, by_order or places)
+            rest = re.sub(places_named, place_type, convert_body(f, rest, by_order or places)) if "tie." in m[2] else convert_body(f, rest, by_order or places)
             f.helpers.pop("=")
             helpers.add(name)
         answers.append("\n".join(comment + [f"{marks}{name} : {kind}"] + ([unfolding] if unfolding else []) + [rest]))
@@ -421,20 +474,23 @@ def used(uses, text):
 
 
 def main():
-    names_dir, crates = sys.argv[1], sys.argv[2:]
+    names_dir, crates = sys.argv[1], [a for a in sys.argv[2:] if not a.startswith("--")]
+    only = [a[7:] for a in sys.argv[2:] if a.startswith("--only=")]
+    gen = [a[6:] for a in sys.argv[2:] if a.startswith("--gen=")]
     for crate in crates:
         with open(os.path.join(names_dir, "crates", crate, "names.json"), encoding="utf-8") as it:
             names = json.load(it)
         top = os.path.join("crates", crate, "proofs")
         for folder, _, files in sorted(os.walk(top)):
-            if "Proof.antt" not in files or "/+" in folder:
-                continue
             path = os.path.relpath(folder, top).replace("/", ".")
+            if "/+" in folder or (path not in only[0].split(",") if only else "Proof.antt" not in files):
+                continue
             info = names.get(f"Rattle-{crate}-proofs.{path}.Lts")
             if info is None:
                 print(f"look: {folder}: no names")
                 continue
-            f, invariants, answers, head, uses = turn(crate, folder, path, info)
+            raw = generated(os.path.join(gen[0], f"Rattle-{crate}-proofs", path.replace(".", "/")), [b for (a, b), v in info["loops"]]) if gen else None
+            f, invariants, answers, head, uses = turn(crate, folder, path, info, raw)
             module = f"Rattle.{crate}.proofs.{path}"
             top_comment = "\n".join(head)
             if invariants:
@@ -444,10 +500,20 @@ def main():
                     it.write("\n".join(lines))
             if answers:
                 text = "\n\n".join(answers)
+                places = []
+                for old, new in dict.fromkeys(f.used_places):
+                    lts = next(p[0] for p in info["places"] if norm(p[0]) == old)
+                    places.append(f"abbrev {new} : Type 0\n{new} = lts.{lts} {raw[0]}")
+                if places:
+                    text = "\n\n".join(["-- places on the way that several answers speak of"] + places).replace("of\n\nabbrev", "of\nabbrev", 1) + "\n\n" + text
+                    for m in ("Lts", "Tie", "Reads"):
+                        if f"{m.lower()}." in text:
+                            uses.append(f"use {module}.{m} as {m.lower()}")
                 lines = [top_comment] + used(uses, text) + [f"use {module}.Goals as goal", "", text, ""]
                 with open(os.path.join(folder, "Answers.antt"), "w", encoding="utf-8") as it:
                     it.write("\n".join(lines))
-            os.remove(os.path.join(folder, "Proof.antt"))
+            if os.path.exists(os.path.join(folder, "Proof.antt")):
+                os.remove(os.path.join(folder, "Proof.antt"))
             if not invariants and not answers and not os.listdir(folder):
                 os.rmdir(folder)
             for l in f.looks:

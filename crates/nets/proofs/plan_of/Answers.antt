@@ -14,7 +14,29 @@ use Rattle.nets.proofs.Rows.{few_same}
 use Rattle.nets.proofs.Wirings.{table_of, not-joined}
 use Rattle.nets.proofs.Orders.{no_free_loop}
 use Rattle.nets.proofs.Plans.{Fielded, fielded, refused_plan, ends-needs, both_joined, order-needs, order_is, loop-is}
+use Rattle.nets.proofs.plan_of.Lts as lts
+use Rattle.nets.proofs.plan_of.Tie as tie
+use Rattle.nets.proofs.plan_of.Reads as reads
 use Rattle.nets.proofs.plan_of.Goals as goal
+
+-- places on the way that several answers speak of
+abbrev Else-not-read_net : Type 0
+Else-not-read_net = lts.Else1 tie.the-claims reads.Pre reads.Post tie.handed_clauses
+
+abbrev Else-not-from : Type 0
+Else-not-from = lts.Else2 tie.the-claims reads.Pre reads.Post tie.handed_clauses
+
+abbrev Else-not-to : Type 0
+Else-not-to = lts.Else3 tie.the-claims reads.Pre reads.Post tie.handed_clauses
+
+abbrev Else-not-few_ends : Type 0
+Else-not-few_ends = lts.Else4 tie.the-claims reads.Pre reads.Post tie.handed_clauses
+
+abbrev Else-not-data : Type 0
+Else-not-data = lts.Else5 tie.the-claims reads.Pre reads.Post tie.handed_clauses
+
+abbrev Else-not-control : Type 0
+Else-not-control = lts.Else6 tie.the-claims reads.Pre reads.Post tie.handed_clauses
 
 pub read_net-requires : goal.read_net-requires
 read_net-requires c = refl
@@ -23,10 +45,10 @@ pub returns-then-not-read_net : goal.returns-then-not-read_net
 returns-then-not-read_net c = refused_plan _ _ Field c.refused.ensures (omega arith) (sym c.read_net.ensures.answer ∙ search (not-true))
 
 -- the fields pass
-abbrev net_1 : goal.Else-not-read_net → Net
+abbrev net_1 : Else-not-read_net → Net
 net_1 c = c.args.net
 
-known : (c : goal.Else-not-read_net) → Fielded (net_1 c) c.read_net.new.1.0
+known : (c : Else-not-read_net) → Fielded (net_1 c) c.read_net.new.rows
 known c = fielded _ _ _ (search (not-false)) c.read_net.ensures
 
 pub ends_of-from-requires : goal.ends_of-from-requires
@@ -41,10 +63,10 @@ returns-then-not-from c =
     (k.fields, not-joined _ _ k.all_rows k.fields true _ _ c.ends_of-from.ensures (search (not-true)))
 
 -- every channel leaves one block
-abbrev fields_2 : goal.Else-not-from → goal.Else-not-read_net
+abbrev fields_2 : Else-not-from → Else-not-read_net
 fields_2 c = c.before.before.before.before.before.before
 
-producers : (c : goal.Else-not-from) → Table (net_1 (fields_2 c)) true c.ends_of-from.result.blocks
+producers : (c : Else-not-from) → Table (net_1 (fields_2 c)) true c.ends_of-from.result.blocks
 producers c =
     let k = known (fields_2 c) in
     table_of _ _ k.all_rows k.fields true _ _ c.ends_of-from.ensures (search (not-false))
@@ -61,22 +83,22 @@ returns-then-not-to c =
     (k.fields, not-joined _ _ k.all_rows k.fields false _ _ c.ends_of-to.ensures (search (not-true)))
 
 -- and enters one
-abbrev from_3 : goal.Else-not-to → goal.Else-not-from
+abbrev from_3 : Else-not-to → Else-not-from
 from_3 c = c.before.before.before.before
 
-abbrev net_3 : goal.Else-not-to → Net
+abbrev net_3 : Else-not-to → Net
 net_3 c = net_1 (fields_2 (from_3 c))
 
-consumers : (c : goal.Else-not-to) → Table (net_3 c) false c.ends_of-to.result.blocks
+consumers : (c : Else-not-to) → Table (net_3 c) false c.ends_of-to.result.blocks
 consumers c =
     let k = known (fields_2 (from_3 c)) in
     table_of _ _ k.all_rows k.fields false _ _ c.ends_of-to.ensures (search (not-false))
 
-joins : (c : goal.Else-not-to) → connected (net_3 c) ≡ true
+joins : (c : Else-not-to) → connected (net_3 c) ≡ true
 joins c =
-    both_joined _ _ (known (fields_2 (from_3 c))) _ _ _ _ (go (from_3 c)) (search (not-false)) (from_3 c).before.before.ends_of.ensures c.ends_of-to.ensures
+    both_joined _ _ (known (fields_2 (from_3 c))) _ _ _ _ (go (from_3 c)) (search (not-false)) (from_3 c).ends_of-from.ensures c.ends_of-to.ensures
   where
-    go : (d : tie.Else2) → d.before.before.ends_of.result.ok ≡ true
+    go : (d : Else-not-from) → d.ends_of-from.result.ok ≡ true
     go d = search (not-false)
 
 pub few_ends-requires : goal.few_ends-requires
@@ -89,13 +111,13 @@ returns-then-not-few_ends c =
     (k.fields, (joins c.before.before.before.before, sym (few_same _ _ k.all_rows) ∙ sym c.few_ends.ensures ∙ search (not-true)))
 
 -- the sources and sinks are few
-abbrev joins_4 : goal.Else-not-few_ends → goal.Else-not-to
+abbrev joins_4 : Else-not-few_ends → Else-not-to
 joins_4 c = c.before.before.before
 
-abbrev net_4 : goal.Else-not-few_ends → Net
+abbrev net_4 : Else-not-few_ends → Net
 net_4 c = net_3 (joins_4 c)
 
-joined : (c : goal.Else-not-few_ends) → Joined (net_4 c)
+joined : (c : Else-not-few_ends) → Joined (net_4 c)
 joined c =
     let k = known (fields_2 (from_3 (joins_4 c))) in
     record {
@@ -117,10 +139,10 @@ returns-then-not-data c =
     (joined c.before.before.before.before.before.before.before, loop-is _ _ (known (fields_2 e)) _ (producers e) false _ _ c.order_of-data.ensures (search (not-true)))
 
 -- there is an order for valid
-abbrev joined_5 : goal.Else-not-data → goal.Else-not-few_ends
+abbrev joined_5 : Else-not-data → Else-not-few_ends
 joined_5 c = c.before.before.before.before.before.before
 
-forth : (c : goal.Else-not-data) → InOrder (net_4 (joined_5 c)) false c.order_of-data.result.blocks
+forth : (c : Else-not-data) → InOrder (net_4 (joined_5 c)) false c.order_of-data.result.blocks
 forth c =
     let e = from_3 (joins_4 (joined_5 c)) in
     order_is _ _ (known (fields_2 e)) _ (producers e) false _ _ c.order_of-data.ensures (search (not-false))
@@ -143,10 +165,10 @@ returns-then-not-control c =
     )
 
 -- and one that gives ready
-abbrev forth_6 : goal.Else-not-control → goal.Else-not-data
+abbrev forth_6 : Else-not-control → Else-not-data
 forth_6 c = c.before.before.before.before.before
 
-back : (c : goal.Else-not-control) → InOrder (net_4 (joined_5 (forth_6 c))) true c.order_of-control.result.blocks
+back : (c : Else-not-control) → InOrder (net_4 (joined_5 (forth_6 c))) true c.order_of-control.result.blocks
 back c =
     let e = from_3 (joins_4 (joined_5 (forth_6 c))) in
     order_is _ _ (known (fields_2 e)) _ (producers e) true _ _ c.order_of-control.ensures (search (not-false))

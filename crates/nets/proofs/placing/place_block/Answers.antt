@@ -7,7 +7,14 @@ use native.Mathlib.Omega.{arith}
 use borrow.Author.Tests.{not-true, not-false}
 use Rattle.nets.specs.Order.{next_at}
 use Rattle.nets.proofs.Orders.{feeds_more, next-yes, stepped-place, stepped-placed, stepped-waits, room}
+use Rattle.nets.proofs.placing.place_block.Lts as lts
+use Rattle.nets.proofs.placing.place_block.Tie as tie
+use Rattle.nets.proofs.placing.place_block.Reads as reads
 use Rattle.nets.proofs.placing.place_block.Goals as goal
+
+-- places on the way that several answers speak of
+abbrev Else-not-may_place : Type 0
+Else-not-may_place = lts.Else2 tie.the-claims reads.Pre reads.Post tie.handed_clauses
 
 pub returns-then-places-b-ne0 : goal.returns-then-places-b-ne0
 returns-then-places-b-ne0 c =
@@ -25,7 +32,7 @@ returns-then-not-may_place c =
     stepped-waits _ _ _ _ _ _ _ _ _ c.requires.progress _ c.requires.feeds c.if-places-b-ne0.false c.may_place.ensures (search (not-true))
 
 -- the block can be placed
-next : (c : goal.Else-not-may_place)
+next : (c : Else-not-may_place)
     → next_at c.args.control c.args.rows.now
     c.args.producer.now c.args.places.now
     c.args.b ≡ true
@@ -35,7 +42,7 @@ next c =
     c.may_place.ensures (search (not-false))
 
 -- and there is room for it
-has_room : (c : goal.Else-not-may_place) → c.args.count < c.args.size
+has_room : (c : Else-not-may_place) → c.args.count < c.args.size
 has_room c =
     let a = c.args in
     room a.control a.rows.now a.producer.now a.size a.count a.blocks.now a.places.now c.requires.progress c.requires.size_bound a.b c.requires.b_lt_size (next c)
