@@ -20,4 +20,4 @@ returns c =
     let a = c.args in
     let p = c.plan_of-plan in
     let w = c.put_net in
-    wrote_put a.net a.buf.now p.result.verdict p.ensures.right (sym c.number-number.ensures ∙ c.if-number-ne0.false) w.result w.new.1.0 w.ensures.answer w.ensures.buffer
+    wrote_put a.net a.buf.now p.result.verdict p.ensures.right (sym c.number-number.ensures ∙ c.if-number-ne0.false) w.result w.new.buf w.ensures.answer w.ensures.buffer

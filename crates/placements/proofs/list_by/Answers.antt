@@ -38,19 +38,19 @@ loads_at-requires c =
     }
 
 pub overflow_cast-numbers : goal.overflow_cast-numbers
-overflow_cast-numbers c = omega (arith, below c.before.before)
+overflow_cast-numbers c = omega (arith, below (goal.at.overflow_cast-numbers c).In-loop-k)
 
 pub offset_bounds-numbers-count : goal.offset_bounds-numbers-count
-offset_bounds-numbers-count c = omega (arith, below c.before.before, c.loop-k.invariant.1.few)
+offset_bounds-numbers-count c = omega (arith, below (goal.at.offset_bounds-numbers-count c).In-loop-k, c.loop-k.invariant.1.few)
 
 pub bounds-numbers-count : goal.bounds-numbers-count
-bounds-numbers-count c = omega (arith, below c.before.before, c.loop-k.invariant.1.few)
+bounds-numbers-count c = omega (arith, below (goal.at.bounds-numbers-count c).In-loop-k, c.loop-k.invariant.1.few)
 
 pub overflow_add-count : goal.overflow_add-count
-overflow_add-count c = omega (arith, below c.before.before, c.loop-k.invariant.1.few)
+overflow_add-count c = omega (arith, below (goal.at.overflow_add-count c).In-loop-k, c.loop-k.invariant.1.few)
 
 pub overflow_add-k : goal.overflow_add-k
-overflow_add-k c = omega (arith, below c.before.before)
+overflow_add-k c = omega (arith, below (goal.at.overflow_add-k c).In-loop-k)
 
 pub loop-k-smaller : goal.loop-k-smaller
 loop-k-smaller c = omega arith
@@ -64,7 +64,7 @@ loop-k-preserved c =
       ⊎_elim
           (λ w.
           subst₂ after (sym w.1) (sym w.2)
-          (keeps-one (loads net) l.k l.count l.numbers l.invariant.1 (below c.before.before) (sym c.loads_at.ensures ∙ w.0.taken)))
+          (keeps-one (loads net) l.k l.count l.numbers l.invariant.1 (below (goal.at.loop-k-preserved c).In-loop-k) (sym c.loads_at.ensures ∙ w.0.taken)))
           (λ w.
           subst₂ after (sym w.1) (sym w.2)
           (keeps_same (loads net) l.k l.count l.numbers l.invariant.1 (sym c.loads_at.ensures ∙ w.0.left)))

@@ -20,7 +20,7 @@ overflow_add-result c = omega (arith, c.port_count-ports.ensures, port_count_le 
 pub returns-then-has_value : goal.returns-then-has_value
 returns-then-has_value c =
     let b = c.args.b in
-    let n = bits_valued b (long c.before.before.before) (sym c.has_value.ensures ∙ c.if-has_value.true) in
+    let n = bits_valued b (long (goal.at.returns-then-has_value c).Start) (sym c.has_value.ensures ∙ c.if-has_value.true) in
     omega (arith, c.port_count-ports.ensures, n, bits-block b)
 
 pub overflow_mul-result-2 : goal.overflow_mul-result-2
@@ -32,5 +32,5 @@ overflow_add-result-2 c = omega (arith, c.port_count-ports.ensures, port_count_l
 pub returns : goal.returns
 returns c =
     let b = c.args.b in
-    let n = bits_plain b (long c.before.before.before) (sym c.has_value.ensures ∙ c.if-has_value.false) in
+    let n = bits_plain b (long (goal.at.returns c).Start) (sym c.has_value.ensures ∙ c.if-has_value.false) in
     omega (arith, c.port_count-ports.ensures, n, bits-block b)

@@ -32,7 +32,7 @@ loop-i-preserved c =
     let n = c.args.net in
     let l = c.loop-i in (
       search rules,
-      omega (arith, c.block_bits-bits.ensures, turn-bits n (long c.before.before.before.before.before.before) l.i (search rules)),
+      omega (arith, c.block_bits-bits.ensures, turn-bits n (long (goal.at.loop-i-preserved c).Start) l.i (search rules)),
       omega (arith, c.block_bits-bits.ensures, bits_most (block_at n l.i)),
     )
 

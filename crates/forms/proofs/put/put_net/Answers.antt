@@ -48,10 +48,10 @@ returns c =
     let room : (length (encode n) + 7) / 8 ≤ length f = omega (arith, e, c.if-buf-bytes.false) in
     let fit : length (form_of n) ≤ length f = rw length-pack room in
     let two = c.put_blocks.ensures ∙ ap (λ (l : List Bool). over l 32 x) c.put_header.ensures in
-    let g = written n f w.new.0 (all_by_index f (λ i. (c.slice_known-1.given i).fits)) (all_by_index w.new.0 (λ i. (c.slice_known-4-1.given i).fits))
+    let g = written n f w.new.buf (all_by_index f (λ i. (c.slice_known-1.given i).fits)) (all_by_index w.new.buf (λ i. (c.slice_known-4-1.given i).fits))
     fit z (ap (λ (k : ℕ). 8 * ((k + 7) / 8) - k) e)
     (w.ensures ∙ ap (λ (l : List Bool). over l r (bits z 0)) two ∙ ap (λ (k : ℕ). over (over (over (bits_of f) 0 (header n)) 32 x) k (bits z 0)) e) in
-    let d = fits n f w.new.0 room g in
+    let d = fits n f w.new.buf room g in
     record {
       answer = ap (λ (k : ℕ). Bytes ((k + 7) / 8)) e ∙ d.0;
       buffer = d.1;

@@ -20,13 +20,13 @@ long c = search rules
 
 pub put_field-requires : goal.put_field-requires
 put_field-requires c =
-    let n = bits_valued c.args.b (long c.before.before.before.before.before.before) (sym c.has_value.ensures ∙ c.if-has_value.true) in
+    let n = bits_valued c.args.b (long (goal.at.put_field-requires c).Start) (sym c.has_value.ensures ∙ c.if-has_value.true) in
     (omega (arith, n), search rules, search rules)
 
 pub put_ports-requires : goal.put_ports-requires
 put_ports-requires c =
     let b = c.args.b in
-    let n = bits_valued b (long c.before.before.before.before.before.before.before.before.before.before) (sym c.has_value.ensures ∙ c.if-has_value.true) in
+    let n = bits_valued b (long (goal.at.put_ports-requires c).Start) (sym c.has_value.ensures ∙ c.if-has_value.true) in
     let p = c.port_count-count.ensures in
     (omega (arith, n, p, c.put_field.auto.0), search rules, omega (arith, p, port_count_le b.kind b.m))
 
@@ -35,16 +35,16 @@ returns-then-has_value c =
     let a = c.args in
     let b = c.args.b in
     let t = sym c.has_value.ensures ∙ c.if-has_value.true in
-    let room : a.at + 32 ≤ length (bits_of a.buf.now) = rw length_bits_of (omega (arith, bits_valued b (long c.before.before.before.before.before.before.before.before.before.before.before.before.before) t, c.requires)) in
+    let room : a.at + 32 ≤ length (bits_of a.buf.now) = rw length_bits_of (omega (arith, bits_valued b (long (goal.at.returns-then-has_value c).Start) t, c.requires)) in
     c.put_ports.ensures
-    ∙ ap (λ (k : ℕ). over (bits_of c.put_field.new.0) (a.at + 32) (put_many (put_field 7) (take k b.ports) [])) c.port_count-count.ensures
+    ∙ ap (λ (k : ℕ). over (bits_of c.put_field.new.buf) (a.at + 32) (put_many (put_field 7) (take k b.ports) [])) c.port_count-count.ensures
     ∙ ap (λ (x : List Bool). over x (a.at + 32) (put_many (put_field 7) (take (port_count b.kind b.m) b.ports) [])) c.put_field.ensures
     ∙ over_valued (bits_of a.buf.now) a.at b room t
 
 pub put_ports-requires-2 : goal.put_ports-requires-2
 put_ports-requires-2 c =
     let b = c.args.b in
-    let n = bits_plain b (long c.before.before.before.before.before.before) (sym c.has_value.ensures ∙ c.if-has_value.false) in
+    let n = bits_plain b (long (goal.at.put_ports-requires-2 c).Start) (sym c.has_value.ensures ∙ c.if-has_value.false) in
     let p = c.port_count-count.ensures in
     (omega (arith, n, p), search rules, omega (arith, p, port_count_le b.kind b.m))
 

@@ -27,42 +27,42 @@ pub bounds-order-i : goal.bounds-order-i
 bounds-order-i c = omega (arith, c.requires.count_bound)
 
 pub overflow_cast-b : goal.overflow_cast-b
-overflow_cast-b c = omega (arith, small c.before.before)
+overflow_cast-b c = omega (arith, small (goal.at.overflow_cast-b c).In-loop-i)
 
 pub overflow_mul-row : goal.overflow_mul-row
-overflow_mul-row c = omega (arith, small c.before.before)
+overflow_mul-row c = omega (arith, small (goal.at.overflow_mul-row c).In-loop-i)
 
 pub offset_bounds-words-b : goal.offset_bounds-words-b
-offset_bounds-words-b c = omega (arith, small c.before.before)
+offset_bounds-words-b c = omega (arith, small (goal.at.offset_bounds-words-b c).In-loop-i)
 
 pub bounds-words-b : goal.bounds-words-b
-bounds-words-b c = omega (arith, small c.before.before.before)
+bounds-words-b c = omega (arith, small (goal.at.bounds-words-b c).In-loop-i)
 
 pub bounds-marks-b : goal.bounds-marks-b
-bounds-marks-b c = omega (arith, small c.before.before.before.before.before)
+bounds-marks-b c = omega (arith, small (goal.at.bounds-marks-b c).In-loop-i)
 
 pub overflow_add-row : goal.overflow_add-row
-overflow_add-row c = omega (arith, small c.before.before.before.before.before.before)
+overflow_add-row c = omega (arith, small (goal.at.overflow_add-row c).In-loop-i)
 
 pub bounds-rows-row : goal.bounds-rows-row
-bounds-rows-row c = omega (arith, small c.before.before.before.before.before.before.before)
+bounds-rows-row c = omega (arith, small (goal.at.bounds-rows-row c).In-loop-i)
 
 pub overflow_add-row-in-loop-i : goal.overflow_add-row-in-loop-i
-overflow_add-row-in-loop-i c = omega (arith, small c.before.before.before.before.before.before.before.before)
+overflow_add-row-in-loop-i c = omega (arith, small (goal.at.overflow_add-row-in-loop-i c).In-loop-i)
 
 pub bounds-rows-row-in-loop-i : goal.bounds-rows-row-in-loop-i
-bounds-rows-row-in-loop-i c = omega (arith, small c.before.before.before.before.before.before.before.before)
+bounds-rows-row-in-loop-i c = omega (arith, small (goal.at.bounds-rows-row-in-loop-i c).In-loop-i)
 
 pub offset_bounds-values-b : goal.offset_bounds-values-b
-offset_bounds-values-b c = omega (arith, small c.before.before.before.before.before.before.before.before.before)
+offset_bounds-values-b c = omega (arith, small (goal.at.offset_bounds-values-b c).In-loop-i)
 
 pub bounds-values-b : goal.bounds-values-b
-bounds-values-b c = omega (arith, small c.before.before.before.before.before.before.before.before.before.before)
+bounds-values-b c = omega (arith, small (goal.at.bounds-values-b c).In-loop-i)
 
 pub forward_one-requires : goal.forward_one-requires
 forward_one-requires c =
     let w = c.requires.rowed in
-    let low = inside c.before.before.before.before.before.before.before.before.before.before.before.before.before in
+    let low = inside (goal.at.forward_one-requires c).In-loop-i in
     record {
       ported = w.ported _ low;
       sized = c.loop-i.invariant.1;

@@ -57,52 +57,52 @@ pub overflow_add-b : goal.overflow_add-b
 overflow_add-b c = omega (arith, c.requires.kind_bound.0, few c)
 
 pub bounds-lists-first : goal.bounds-lists-first
-bounds-lists-first c = omega (arith, c.requires.kind_bound.0, few c.before)
+bounds-lists-first c = omega (arith, c.requires.kind_bound.0, few (goal.at.bounds-lists-first c).In-loop-i)
 
 pub overflow_cast-b : goal.overflow_cast-b
-overflow_cast-b c = omega (arith, small c.before.before)
+overflow_cast-b c = omega (arith, small (goal.at.overflow_cast-b c).In-loop-i)
 
 pub overflow_mul-row : goal.overflow_mul-row
-overflow_mul-row c = omega (arith, small c.before.before)
+overflow_mul-row c = omega (arith, small (goal.at.overflow_mul-row c).In-loop-i)
 
 pub offset_bounds-words-b : goal.offset_bounds-words-b
-offset_bounds-words-b c = omega (arith, small c.before.before)
+offset_bounds-words-b c = omega (arith, small (goal.at.offset_bounds-words-b c).In-loop-i)
 
 pub bounds-words-b : goal.bounds-words-b
-bounds-words-b c = omega (arith, small c.before.before.before)
+bounds-words-b c = omega (arith, small (goal.at.bounds-words-b c).In-loop-i)
 
 pub bounds-marks-b : goal.bounds-marks-b
-bounds-marks-b c = omega (arith, small c.before.before.before.before.before)
+bounds-marks-b c = omega (arith, small (goal.at.bounds-marks-b c).In-loop-i)
 
 pub overflow_add-row : goal.overflow_add-row
-overflow_add-row c = omega (arith, small c.before.before.before.before.before.before)
+overflow_add-row c = omega (arith, small (goal.at.overflow_add-row c).In-loop-i)
 
 pub bounds-rows-row : goal.bounds-rows-row
-bounds-rows-row c = omega (arith, small c.before.before.before.before.before.before.before)
+bounds-rows-row c = omega (arith, small (goal.at.bounds-rows-row c).In-loop-i)
 
 pub offset_bounds-values-b : goal.offset_bounds-values-b
-offset_bounds-values-b c = omega (arith, small c.before.before.before.before.before.before.before.before)
+offset_bounds-values-b c = omega (arith, small (goal.at.offset_bounds-values-b c).In-loop-i)
 
 pub bounds-values-b : goal.bounds-values-b
-bounds-values-b c = omega (arith, small c.before.before.before.before.before.before.before.before.before)
+bounds-values-b c = omega (arith, small (goal.at.bounds-values-b c).In-loop-i)
 
 pub forward_one-requires : goal.forward_one-requires
 forward_one-requires c =
     let w = c.requires.rowed in
     let a = c.args in
-    let low = inside c.before.before.before.before.before.before.before.before.before.before.before.before in
+    let low = inside (goal.at.forward_one-requires c).In-loop-i in
     let m : ℕ = m_no a.rows.now (in_kind a.lists.now a.kind c.loop-i.i) in
     let base : ℕ = base_no (in_kind a.lists.now a.kind c.loop-i.i) in
     record {
       ported = w.ported _ low;
       sized = c.loop-i.invariant.1;
-      m_value = subst (λ (k : ℕ). m_ok k m ≡ true) (same c.before.before.before.before.before.before.before.before.before.before.before.before) (w.sound _ low);
-      reg_value = subst (λ (k : ℕ). in_shape (kind_of k m 0 []) (reg_in a.words.now a.marks.now (in_kind a.lists.now a.kind c.loop-i.i)) ≡ true) (same c.before.before.before.before.before.before.before.before.before.before.before.before) (c.requires.shaped _ low);
-      apart = subst (λ (k : ℕ). Apart (λ j. port_at a.rows.now base (inputs_of k m + j)) (outputs_of k m)) (same c.before.before.before.before.before.before.before.before.before.before.before.before) (λ i j hi hj e. (w.outs_apart _ _ i j low low hi hj e).1);
+      m_value = subst (λ (k : ℕ). m_ok k m ≡ true) (same (goal.at.forward_one-requires c).In-loop-i) (w.sound _ low);
+      reg_value = subst (λ (k : ℕ). in_shape (kind_of k m 0 []) (reg_in a.words.now a.marks.now (in_kind a.lists.now a.kind c.loop-i.i)) ≡ true) (same (goal.at.forward_one-requires c).In-loop-i) (c.requires.shaped _ low);
+      apart = subst (λ (k : ℕ). Apart (λ j. port_at a.rows.now base (inputs_of k m + j)) (outputs_of k m)) (same (goal.at.forward_one-requires c).In-loop-i) (λ i j hi hj e. (w.outs_apart _ _ i j low low hi hj e).1);
     }
 
 pub overflow_add-i : goal.overflow_add-i
-overflow_add-i c = omega (arith, few c.before.before.before.before.before.before.before.before.before.before.before.before.before)
+overflow_add-i c = omega (arith, few (goal.at.overflow_add-i c).In-loop-i)
 
 pub loop-i-smaller : goal.loop-i-smaller
 loop-i-smaller c = omega arith
@@ -117,7 +117,7 @@ loop-i-preserved c =
       λ w k rest xs mask done resting src.
           pass_more _ _ _ _ _ _ (ahead-kind a.rows.now a.values.now xs mask (reg_in a.words.now a.marks.now) a.n w a.kind _ _ k done rest resting) _ _ l.i (omega arith)
           (l.invariant.2 w k rest xs mask done resting src)
-          (ahead_same a.kind (kind_no a.rows.now at) (m_no a.rows.now at) (get_or a.values.now at 0) (same c.before.before.before.before.before.before.before.before.before.before.before.before.before) a.rows.now (base_no at) (mask at) (reg_in a.words.now a.marks.now at) (xs at) _ _
+          (ahead_same a.kind (kind_no a.rows.now at) (m_no a.rows.now at) (get_or a.values.now at 0) (same (goal.at.loop-i-preserved c).In-loop-i) a.rows.now (base_no at) (mask at) (reg_in a.words.now a.marks.now at) (xs at) _ _
           c.requires.kind_bound.2 (c.forward_one.ensures.by_index (xs at) (mask at))),
     )
 

@@ -33,36 +33,36 @@ pub bounds-order-count : goal.bounds-order-count
 bounds-order-count c = omega (arith, c.requires.count_bound)
 
 pub overflow_cast-b : goal.overflow_cast-b
-overflow_cast-b c = omega (arith, small c.before.before)
+overflow_cast-b c = omega (arith, small (goal.at.overflow_cast-b c).In-loop-i)
 
 pub overflow_mul-row : goal.overflow_mul-row
-overflow_mul-row c = omega (arith, small c.before.before)
+overflow_mul-row c = omega (arith, small (goal.at.overflow_mul-row c).In-loop-i)
 
 pub offset_bounds-words-b : goal.offset_bounds-words-b
-offset_bounds-words-b c = omega (arith, small c.before.before)
+offset_bounds-words-b c = omega (arith, small (goal.at.offset_bounds-words-b c).In-loop-i)
 
 pub bounds-words-b : goal.bounds-words-b
-bounds-words-b c = omega (arith, small c.before.before.before)
+bounds-words-b c = omega (arith, small (goal.at.bounds-words-b c).In-loop-i)
 
 pub bounds-marks-b : goal.bounds-marks-b
-bounds-marks-b c = omega (arith, small c.before.before.before.before.before)
+bounds-marks-b c = omega (arith, small (goal.at.bounds-marks-b c).In-loop-i)
 
 pub overflow_add-row : goal.overflow_add-row
-overflow_add-row c = omega (arith, small c.before.before.before.before.before.before)
+overflow_add-row c = omega (arith, small (goal.at.overflow_add-row c).In-loop-i)
 
 pub bounds-rows-row : goal.bounds-rows-row
-bounds-rows-row c = omega (arith, small c.before.before.before.before.before.before.before)
+bounds-rows-row c = omega (arith, small (goal.at.bounds-rows-row c).In-loop-i)
 
 pub overflow_add-row-in-loop-i : goal.overflow_add-row-in-loop-i
-overflow_add-row-in-loop-i c = omega (arith, small c.before.before.before.before.before.before.before.before)
+overflow_add-row-in-loop-i c = omega (arith, small (goal.at.overflow_add-row-in-loop-i c).In-loop-i)
 
 pub bounds-rows-row-in-loop-i : goal.bounds-rows-row-in-loop-i
-bounds-rows-row-in-loop-i c = omega (arith, small c.before.before.before.before.before.before.before.before)
+bounds-rows-row-in-loop-i c = omega (arith, small (goal.at.bounds-rows-row-in-loop-i c).In-loop-i)
 
 pub backward_one-requires : goal.backward_one-requires
 backward_one-requires c =
     let w = c.requires.rowed in
-    let low = inside c.before.before.before.before.before.before.before.before.before.before in
+    let low = inside (goal.at.backward_one-requires c).In-loop-i in
     record {
       ported = w.ported _ low;
       ready_len = c.loop-i.invariant.1;

@@ -71,57 +71,57 @@ pub overflow_add-b : goal.overflow_add-b
 overflow_add-b c = omega (arith, c.requires.kind_bound, few c)
 
 pub bounds-lists-first : goal.bounds-lists-first
-bounds-lists-first c = omega (arith, c.requires.kind_bound, few c.before)
+bounds-lists-first c = omega (arith, c.requires.kind_bound, few (goal.at.bounds-lists-first c).In-loop-i)
 
 pub overflow_cast-b : goal.overflow_cast-b
-overflow_cast-b c = omega (arith, small c.before.before)
+overflow_cast-b c = omega (arith, small (goal.at.overflow_cast-b c).In-loop-i)
 
 pub overflow_mul-row : goal.overflow_mul-row
-overflow_mul-row c = omega (arith, small c.before.before)
+overflow_mul-row c = omega (arith, small (goal.at.overflow_mul-row c).In-loop-i)
 
 pub offset_bounds-words-b : goal.offset_bounds-words-b
-offset_bounds-words-b c = omega (arith, small c.before.before)
+offset_bounds-words-b c = omega (arith, small (goal.at.offset_bounds-words-b c).In-loop-i)
 
 pub bounds-words-b : goal.bounds-words-b
-bounds-words-b c = omega (arith, small c.before.before.before)
+bounds-words-b c = omega (arith, small (goal.at.bounds-words-b c).In-loop-i)
 
 pub bounds-marks-b : goal.bounds-marks-b
-bounds-marks-b c = omega (arith, small c.before.before.before.before.before)
+bounds-marks-b c = omega (arith, small (goal.at.bounds-marks-b c).In-loop-i)
 
 pub overflow_add-row : goal.overflow_add-row
-overflow_add-row c = omega (arith, small c.before.before.before.before.before.before)
+overflow_add-row c = omega (arith, small (goal.at.overflow_add-row c).In-loop-i)
 
 pub bounds-rows-row : goal.bounds-rows-row
-bounds-rows-row c = omega (arith, small c.before.before.before.before.before.before.before)
+bounds-rows-row c = omega (arith, small (goal.at.bounds-rows-row c).In-loop-i)
 
 pub next_one-next-requires : goal.next_one-next-requires
 next_one-next-requires c =
     let l = c.loop-i in
     let a = c.args in
     let w = c.requires.rowed in
-    let low = inside c.before.before.before.before.before.before.before.before in
+    let low = inside (goal.at.next_one-next-requires c).In-loop-i in
     let at : ℕ = in_kind a.lists.now a.kind l.i in
     let m : ℕ = m_no a.rows.now at in
-    let still : reg_in l.words l.marks at ≡ reg_in a.words.now a.marks.now at = l.invariant.4 at (fresh c.before.before.before.before.before.before.before.before) in
-    let s = c.requires.by_index at low ((list c.before.before.before.before.before.before.before.before).each l.i (omega arith)).1 in
+    let still : reg_in l.words l.marks at ≡ reg_in a.words.now a.marks.now at = l.invariant.4 at (fresh (goal.at.next_one-next-requires c).In-loop-i) in
+    let s = c.requires.by_index at low ((list (goal.at.next_one-next-requires c).In-loop-i).each l.i (omega arith)).1 in
     record {
       ported = w.ported at low;
-      m_value = subst (λ (k : ℕ). m_ok k m ≡ true) (same c.before.before.before.before.before.before.before.before) (w.sound at low);
-      reg_value = subst (λ (r : Reg). in_shape (kind_of a.kind m 0 []) r ≡ true) (sym still) (subst (λ (k : ℕ). in_shape (kind_of k m 0 []) (reg_in a.words.now a.marks.now at) ≡ true) (same c.before.before.before.before.before.before.before.before) s.shape);
-      settled = subst (λ (r : Reg). Settled a.kind m r a.rows.now (base_no at) a.valid.now a.word.now) (sym still) (subst (λ (k : ℕ). Settled k m (reg_in a.words.now a.marks.now at) a.rows.now (base_no at) a.valid.now a.word.now) (same c.before.before.before.before.before.before.before.before) s.settled);
+      m_value = subst (λ (k : ℕ). m_ok k m ≡ true) (same (goal.at.next_one-next-requires c).In-loop-i) (w.sound at low);
+      reg_value = subst (λ (r : Reg). in_shape (kind_of a.kind m 0 []) r ≡ true) (sym still) (subst (λ (k : ℕ). in_shape (kind_of k m 0 []) (reg_in a.words.now a.marks.now at) ≡ true) (same (goal.at.next_one-next-requires c).In-loop-i) s.shape);
+      settled = subst (λ (r : Reg). Settled a.kind m r a.rows.now (base_no at) a.valid.now a.word.now) (sym still) (subst (λ (k : ℕ). Settled k m (reg_in a.words.now a.marks.now at) a.rows.now (base_no at) a.valid.now a.word.now) (same (goal.at.next_one-next-requires c).In-loop-i) s.settled);
     }
 
 pub offset_bounds-words-b-in-loop-i : goal.offset_bounds-words-b-in-loop-i
-offset_bounds-words-b-in-loop-i c = omega (arith, small c.before.before.before.before.before.before.before.before.before)
+offset_bounds-words-b-in-loop-i c = omega (arith, small (goal.at.offset_bounds-words-b-in-loop-i c).In-loop-i)
 
 pub bounds-words-b-in-loop-i : goal.bounds-words-b-in-loop-i
-bounds-words-b-in-loop-i c = omega (arith, small c.before.before.before.before.before.before.before.before.before, c.loop-i.invariant.1)
+bounds-words-b-in-loop-i c = omega (arith, small (goal.at.bounds-words-b-in-loop-i c).In-loop-i, c.loop-i.invariant.1)
 
 pub bounds-marks-b-in-loop-i : goal.bounds-marks-b-in-loop-i
-bounds-marks-b-in-loop-i c = omega (arith, small c.before.before.before.before.before.before.before.before.before, c.loop-i.invariant.2)
+bounds-marks-b-in-loop-i c = omega (arith, small (goal.at.bounds-marks-b-in-loop-i c).In-loop-i, c.loop-i.invariant.2)
 
 pub overflow_add-i : goal.overflow_add-i
-overflow_add-i c = omega (arith, few c.before.before.before.before.before.before.before.before.before)
+overflow_add-i c = omega (arith, few (goal.at.overflow_add-i c).In-loop-i)
 
 pub loop-i-smaller : goal.loop-i-smaller
 loop-i-smaller c = omega arith
@@ -131,7 +131,7 @@ loop-i-preserved c =
     let l = c.loop-i in
     let a = c.args in
     let w = c.requires.rowed in
-    let low = inside c.before.before.before.before.before.before.before.before.before in
+    let low = inside (goal.at.loop-i-preserved c).In-loop-i in
     let at : ℕ = in_kind a.lists.now a.kind l.i in
     let m : ℕ = m_no a.rows.now at in
     let next = c.next_one-next.result in (
@@ -141,10 +141,10 @@ loop-i-preserved c =
       λ values xs mask.
           below_more (λ k. reg_in (set l.words at next.word) (set l.marks at next.marks) (in_kind a.lists.now a.kind k)
           ≡ next_no a.rows.now values xs mask (reg_in a.words.now a.marks.now) (sig_at a.valid.now a.word.now) (ready_at a.ready.now) (in_kind a.lists.now a.kind k)) l.i
-          (λ k lk. regs_there l.words l.marks at next (in_kind a.lists.now a.kind k) (λ e. fresh c.before.before.before.before.before.before.before.before.before k lk e) ∙ l.invariant.3 values xs mask k lk)
-          (regs_here l.words l.marks at next l.invariant.1 l.invariant.2 (small c.before.before.before.before.before.before.before.before.before) ∙ c.next_one-next.ensures (get_or values at 0) (xs at)
-          ∙ ap (λ (r : Reg). next_here (kind_of a.kind m (get_or values at 0) (xs at)) r a.rows.now (base_no at) (sig_at a.valid.now a.word.now) (ready_at a.ready.now)) (l.invariant.4 at (fresh c.before.before.before.before.before.before.before.before.before))
-          ∙ ap (λ (k : ℕ). next_here (kind_of k m (get_or values at 0) (xs at)) (reg_in a.words.now a.marks.now at) a.rows.now (base_no at) (sig_at a.valid.now a.word.now) (ready_at a.ready.now)) (sym (same c.before.before.before.before.before.before.before.before.before))
+          (λ k lk. regs_there l.words l.marks at next (in_kind a.lists.now a.kind k) (λ e. fresh (goal.at.loop-i-preserved c).In-loop-i k lk e) ∙ l.invariant.3 values xs mask k lk)
+          (regs_here l.words l.marks at next l.invariant.1 l.invariant.2 (small (goal.at.loop-i-preserved c).In-loop-i) ∙ c.next_one-next.ensures (get_or values at 0) (xs at)
+          ∙ ap (λ (r : Reg). next_here (kind_of a.kind m (get_or values at 0) (xs at)) r a.rows.now (base_no at) (sig_at a.valid.now a.word.now) (ready_at a.ready.now)) (l.invariant.4 at (fresh (goal.at.loop-i-preserved c).In-loop-i))
+          ∙ ap (λ (k : ℕ). next_here (kind_of k m (get_or values at 0) (xs at)) (reg_in a.words.now a.marks.now at) a.rows.now (base_no at) (sig_at a.valid.now a.word.now) (ready_at a.ready.now)) (sym (same (goal.at.loop-i-preserved c).In-loop-i))
           ∙ next_here_lem a.rows.now values xs mask (reg_in a.words.now a.marks.now) a.n w at low (sig_at a.valid.now a.word.now) (ready_at a.ready.now)),
       λ b h. regs_there l.words l.marks at next b (λ e. h l.i (omega arith) (sym e)) ∙ l.invariant.4 b (λ k lk. h k (omega arith)),
     )

@@ -9,11 +9,8 @@ use lib.Dec.{eqb}
 use Rattle.ports.proofs.ByKind.{put_port_more}
 use Rattle.ports.proofs.Puts.{put_none}
 use Rattle.ports.specs.Places.{ready_at, port_at, Apart, Put}
+use Rattle.ports.proofs.backward.ready_chosen.Invariants.{InputsPut}
 use Rattle.ports.proofs.backward.ready_chosen.Goals as goal
-
--- the first i of the inputs from port `first` on have been put
-abbrev InputsPut : List ℕ → ℕ → ℕ → Bool → ℕ → ℕ → (ℕ → Bool) → (ℕ → Bool) → Type 0
-InputsPut rows base first go chosen i before after = Put (λ j. port_at rows base (first + j)) (λ j. go && eqb j chosen) i before after
 
 -- one input more
 input_more : (rows : List ℕ) (base first : ℕ) (go : Bool) (chosen n i : ℕ) (f g h : ℕ → Bool) → Apart (λ j. port_at rows base (first + j)) n → i < n

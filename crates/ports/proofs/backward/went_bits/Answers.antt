@@ -6,12 +6,9 @@ use mathlib.Core.Bool.{Bool}
 use Prim.Native.Nat.{ℕ, ◌+◌, ◌-◌, ◌*◌, ◌≤◌, ◌<◌}
 use native.Mathlib.Omega.{arith}
 use Rattle.ports.specs.Worked.{went_at}
-use Rattle.blocks.specs.Folds.{one, bits}
+use Rattle.blocks.specs.Folds.{one}
+use Rattle.ports.proofs.backward.went_bits.Invariants.{From}
 use Rattle.ports.proofs.backward.went_bits.Goals as goal
-
--- r has the bits of f below n from bit i on
-abbrev From : (ℕ → Bool) → ℕ → ℕ → ℕ → Type 0
-From f n i r = r ≡ bits (λ k. f (i + k)) (n - i)
 
 from-small : (f : ℕ → Bool) (n i r : ℕ) → n ≤ 8 → 0 < i → From f n i r → r < 128
 from-small f n i r l p e = omega (arith, bits_small (λ k. f (i + k)) (n - i) 7 (omega arith))

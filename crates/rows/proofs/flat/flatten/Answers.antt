@@ -49,8 +49,8 @@ loop-b-preserved c =
       omega arith,
       p.long,
       length-set l.values l.b v ∙ l.invariant.2,
-      below_more (λ k. RowIs (block_at a.net k) c.put_row.new.1.1.0 k) l.b
-          (λ k lk. row_kept (block_at a.net k) l.rows c.put_row.new.1.1.0 k (λ j lj. p.others j (inl (omega arith))) (l.invariant.3 k lk)) p.row,
+      below_more (λ k. RowIs (block_at a.net k) c.put_row.new.rows k) l.b
+          (λ k lk. row_kept (block_at a.net k) l.rows c.put_row.new.rows k (λ j lj. p.others j (inl (omega arith))) (l.invariant.3 k lk)) p.row,
       below_more (λ k. get_or (set l.values l.b v) k 0 ≡ (block_at a.net k).value) l.b
           (λ k lk. get_or-set_other l.values l.b k v 0 (λ e. omega arith) ∙ l.invariant.4 k lk) (get_or-set_same l.values l.b v 0 (omega (arith, c.requires.n_bound, l.invariant.2))),
     )

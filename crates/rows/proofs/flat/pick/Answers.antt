@@ -24,16 +24,16 @@ pub bounds-blocks-count : goal.bounds-blocks-count
 bounds-blocks-count c = omega (arith, c.requires.rowed.few)
 
 pub overflow_cast-b : goal.overflow_cast-b
-overflow_cast-b c = omega (arith, small c.before.before)
+overflow_cast-b c = omega (arith, small (goal.at.overflow_cast-b c).In-loop-i)
 
 pub overflow_mul-b : goal.overflow_mul-b
-overflow_mul-b c = omega (arith, small c.before.before)
+overflow_mul-b c = omega (arith, small (goal.at.overflow_mul-b c).In-loop-i)
 
 pub overflow_add-b : goal.overflow_add-b
-overflow_add-b c = omega (arith, small c.before.before)
+overflow_add-b c = omega (arith, small (goal.at.overflow_add-b c).In-loop-i)
 
 pub bounds-rows-b : goal.bounds-rows-b
-bounds-rows-b c = omega (arith, small c.before.before.before)
+bounds-rows-b c = omega (arith, small (goal.at.bounds-rows-b c).In-loop-i)
 
 pub overflow_add-count : goal.overflow_add-count
 overflow_add-count c =

@@ -41,10 +41,10 @@ abbrev start : goal.After-flatten → goal.Start
 start c = c.before.before.before.before.before.before.before.before.before.before.before
 
 abbrev rows : goal.After-flatten → List ℕ
-rows c = c.flatten.new.1.1.0
+rows c = c.flatten.new.rows
 
 abbrev values : goal.After-flatten → List ℕ
-values c = c.flatten.new.1.1.1.0
+values c = c.flatten.new.values
 
 abbrev flat-shape : goal.After-shape_ok → goal.After-flatten
 flat-shape c = c.before.before
@@ -64,7 +64,7 @@ rows-sound c = rowed (net (start c)) (rows c) (values c) c.flatten.ensures (star
 
 shape_test : (c : goal.After-shape_ok) → c.shape_ok.result ≡ shape_ok (net (start (flat-shape c))) (state (start (flat-shape c)))
 shape_test c =
-    let f : tie.After-flatten = flat-shape c in
+    let f : goal.After-flatten = flat-shape c in
     shape_by (net (start f)) (rows f) (values f) f.flatten.ensures (state (start f)) c.shape_ok.result c.shape_ok.ensures
 
 shaped : (c : goal.Else-not-shape_ok) → shape_ok (net (start (flat-shape c.before))) (state (start (flat-shape c.before))) ≡ true
@@ -72,14 +72,14 @@ shaped c = holds_when c.shape_ok.result (shape_ok (net (start (flat-shape c.befo
 
 ends_test : (c : goal.After-ends_fit) → c.ends_fit.result ≡ ends_fit (net (start (flat_fit c))) (words (start (flat_fit c))) (ends (start (flat_fit c)))
 ends_test c =
-    let f : tie.After-flatten = flat_fit c in
+    let f : goal.After-flatten = flat_fit c in
     let k = c.sort_kinds-sorted in
     fit_by (net (start f)) (rows f) (values f) f.flatten.ensures (start f).pre.0.fields (start f).pre.0.joins (words (start f)) (ends (start f)) k.result.counts k.result.lists
     k.ensures c.numbers_in.result c.numbers_in.ensures c.ends_fit.result c.ends_fit.ensures
 
 fits : (c : goal.Else-not-ends_fit) → ends_fit (net (start (flat_fit c.before))) (words (start (flat_fit c.before))) (ends (start (flat_fit c.before))) ≡ true
 fits c =
-    let s : tie.Start = start (flat_fit c.before) in
+    let s : goal.Start = start (flat_fit c.before) in
     holds_when c.ends_fit.result (ends_fit (net s) (words s) (ends s)) (ends_test c.before) c.if-not-ends_fit.false
 
 even : (c : goal.Else-count-eq1) → length (masks (start (flat-count c.before))) % 2 ≡ 1 → ⊥
@@ -98,8 +98,8 @@ works : (c : goal.Else-state-count-gt1048576) → (
     (masks (start (flat-count c.before.before.before))) ≡ 0
     )
 works c =
-    let n : tie.After-numbers-in2 = c.before.before.before in
-    let s : tie.Start = start (flat-count n) in
+    let n : goal.After-numbers_in-count = c.before.before.before in
+    let s : goal.Start = start (flat-count n) in
     earns-none (net s) (state s) (words s) (ends s) (masks s) (trace s) s.pre.1 (shaped (shape_fit n.before.before)) (fits n.before) (even c.before.before)
     (omega (arith, c.if-state-count-gt1048576.false, n.numbers-in2.ensures))
 
@@ -113,7 +113,7 @@ flatten-requires c =
     }
 
 pub shape_ok-requires : goal.shape_ok-requires
-shape_ok-requires c = rows-sound c.before
+shape_ok-requires c = rows-sound (goal.at.shape_ok-requires c).After-flatten
 
 pub returns-then-not-shape_ok : goal.returns-then-not-shape_ok
 returns-then-not-shape_ok c =
@@ -126,7 +126,7 @@ returns-then-not-shape_ok c =
     record { value = all.0; trace_after = all.1 }
 
 pub sort_kinds-sorted-requires : goal.sort_kinds-sorted-requires
-sort_kinds-sorted-requires c = rows-sound (flat-shape c.before.before)
+sort_kinds-sorted-requires c = rows-sound (flat-shape (goal.at.sort_kinds-sorted-requires c).After-shape_ok)
 
 pub bounds-sorted-0 : goal.bounds-sorted-0
 bounds-sorted-0 c = omega arith
@@ -156,7 +156,7 @@ returns-then-state-count-gt1048576 c =
     let n : tie.After-numbers-in2 = c.before.before.before.before in
     let s : tie.Start = start (flat-count n) in
     let all = refused_by (net s) (state s) (words s) (ends s) (masks s) (trace s) 16
-    (earns-16 (net s) (state s) (words s) (ends s) (masks s) (trace s) s.pre.1 (shaped (shape_fit n.before.before)) (fits n.before) (even c.before.before.before)
+    (earns-16 (net s) (state s) (words s) (ends s) (masks s) (trace s) s.pre.1 (shaped (shape_fit n.before.before)) (fits n.before) (even (goal.at.returns-then-state-count-gt1048576 c).Else-count-eq1)
     (omega (arith, c.if-state-count-gt1048576.true, n.numbers-in2.ensures)))
     (λ z. omega (arith, z)) _ c.refused-then-state-count-gt1048576.ensures in
     record { value = all.0; trace_after = all.1 }
@@ -174,7 +174,7 @@ run_cycles-requires c =
       kinds = kinds;
       state_value = (shape, c.if-state-count-gt1048576.false);
       ends_value = fits n.before;
-      masks_len = two_each c.before.before.before.before.before;
+      masks_len = two_each (goal.at.run_cycles-requires c).Else-count-eq1;
     }
 
 pub returns : goal.returns

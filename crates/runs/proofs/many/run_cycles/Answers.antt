@@ -323,7 +323,7 @@ pub returns : goal.returns
 returns c =
     let l : At-loop = c.before.before.before in
     let s : Start = start l in
-    let all = ended c.before.before in
+    let all = ended (goal.at.returns c).After-loop-i in
     record {
       value = answer-done (net s) (state s) (words s) (ends s) (masks s) (trace₀ s) l.loop.i l.loop.used l.loop.words l.loop.marks l.loop.trace l.loop.invariant.0 s.args.n all _
           c.answer-2.ensures;

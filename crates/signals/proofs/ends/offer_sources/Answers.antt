@@ -33,22 +33,22 @@ pub bounds-sources-k : goal.bounds-sources-k
 bounds-sources-k c = omega (arith, among_few c.args.rows.now 0 c.args.count _ c.requires.among)
 
 pub overflow_cast-b : goal.overflow_cast-b
-overflow_cast-b c = omega (arith, small c.before.before)
+overflow_cast-b c = omega (arith, small (goal.at.overflow_cast-b c).In-loop-k)
 
 pub number_in-end-requires : goal.number_in-end-requires
 number_in-end-requires c = omega (arith, c.requires.fitting.each)
 
 pub offset_bounds-words-b : goal.offset_bounds-words-b
-offset_bounds-words-b c = omega (arith, small c.before.before.before)
+offset_bounds-words-b c = omega (arith, small (goal.at.offset_bounds-words-b c).In-loop-k)
 
 pub bounds-words-b : goal.bounds-words-b
-bounds-words-b c = omega (arith, small c.before.before.before.before)
+bounds-words-b c = omega (arith, small (goal.at.bounds-words-b c).In-loop-k)
 
 pub bounds-marks-b : goal.bounds-marks-b
-bounds-marks-b c = omega (arith, small c.before.before.before.before.before.before)
+bounds-marks-b c = omega (arith, small (goal.at.bounds-marks-b c).In-loop-k)
 
 pub overflow_mul-b : goal.overflow_mul-b
-overflow_mul-b c = omega (arith, small c.before.before.before.before.before.before.before)
+overflow_mul-b c = omega (arith, small (goal.at.overflow_mul-b c).In-loop-k)
 
 pub offer_one-requires : goal.offer_one-requires
 offer_one-requires c =
@@ -58,7 +58,7 @@ offer_one-requires c =
     let f = c.requires.fitting in
     let e = c.number_in-end.ensures in
     record {
-      ported = m.rowed.ported _ (inside c.before.before.before.before.before.before.before.before.before);
+      ported = m.rowed.ported _ (inside (goal.at.offer_one-requires c).In-loop-k);
       sized = l.invariant.3;
       start_le_end = (subst (λ (x : ℕ). l.start ≤ x) (sym e) (rw l.invariant.2 (f.up l.k (omega arith))), subst (λ (x : ℕ). x ≤ length (given a.bytes.now a.stream.now)) (sym e) (f.within l.k (omega arith)));
     }
@@ -81,7 +81,7 @@ loop-k-preserved c =
       rest_half l.k a.offer l.rest l.invariant.1,
       e ∙ end_next (given a.end-bytes.now a.ends.now) l.k,
       c.offer_one.ensures.sized_2,
-      below_more (λ j. sig_at c.offer_one.new.1.1.1.1.1.1.1.1.0 c.offer_one.new.1.1.1.1.1.1.1.1.1.0 (port_at a.rows.now (base_no (get_or a.sources.now j 0)) 0) ≡ source_out (stream_no (given a.bytes.now a.stream.now) (given a.end-bytes.now a.ends.now) j) (reg_in a.words.now a.marks.now (get_or a.sources.now j 0)) (bit j a.offer)) l.k
+      below_more (λ j. sig_at c.offer_one.new.valid c.offer_one.new.word (port_at a.rows.now (base_no (get_or a.sources.now j 0)) 0) ≡ source_out (stream_no (given a.bytes.now a.stream.now) (given a.end-bytes.now a.ends.now) j) (reg_in a.words.now a.marks.now (get_or a.sources.now j 0)) (bit j a.offer)) l.k
           (λ j lj.
           put.others (port_at a.rows.now (base_no (get_or a.sources.now j 0)) 0)
           (λ o lo e. let z : j ≡ l.k = among_apart a.rows.now 0 a.count _ m j l.k (omega arith) (omega arith)

@@ -31,16 +31,16 @@ pub bounds-lists-k : goal.bounds-lists-k
 bounds-lists-k c = omega (arith, among_few c.args.rows.now 1 c.args.count _ c.requires.among)
 
 pub overflow_cast-b : goal.overflow_cast-b
-overflow_cast-b c = omega (arith, small c.before.before)
+overflow_cast-b c = omega (arith, small (goal.at.overflow_cast-b c).In-loop-k)
 
 pub overflow_mul-b : goal.overflow_mul-b
-overflow_mul-b c = omega (arith, small c.before.before)
+overflow_mul-b c = omega (arith, small (goal.at.overflow_mul-b c).In-loop-k)
 
 pub ready_port-requires : goal.ready_port-requires
 ready_port-requires c =
     let m = c.requires.among in
     record {
-      ported = m.rowed.ported _ (inside c.before.before.before);
+      ported = m.rowed.ported _ (inside (goal.at.ready_port-requires c).In-loop-k);
       ready_len = c.loop-k.invariant.2;
       i_bound = omega arith;
     }
@@ -61,7 +61,7 @@ loop-k-preserved c =
       omega arith,
       rest_half l.k a.mask l.rest l.invariant.1,
       c.ready_port.ensures.ready_len_2,
-      below_more (λ j. ready_at c.ready_port.new.1.1.1.1.0 (port_at a.rows.now (base_no (get_or a.lists.now (64 + j) 0)) 0) ≡ bit j a.mask) l.k
+      below_more (λ j. ready_at c.ready_port.new.ready (port_at a.rows.now (base_no (get_or a.lists.now (64 + j) 0)) 0) ≡ bit j a.mask) l.k
           (λ j lj.
           put.others (port_at a.rows.now (base_no (get_or a.lists.now (64 + j) 0)) 0)
           (λ o lo e. let z : j ≡ l.k = among_apart a.rows.now 1 a.count _ m j l.k (omega arith) (omega arith)

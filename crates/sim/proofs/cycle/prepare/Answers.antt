@@ -19,10 +19,10 @@ use Rattle.sim.proofs.cycle.prepare.Goals as goal
 
 -- the rows and the values that `flatten` leaves
 abbrev laid_rows : goal.After-flatten → List ℕ
-laid_rows c = c.flatten.new.1.1.0
+laid_rows c = c.flatten.new.rows
 
 abbrev laid_values : goal.After-flatten → List ℕ
-laid_values c = c.flatten.new.1.1.1.0
+laid_values c = c.flatten.new.values
 
 abbrev start : goal.After-flatten → goal.Start
 start c = c.before.before.before.before.before.before
@@ -62,16 +62,16 @@ pub sort_kinds-sorted-requires : goal.sort_kinds-sorted-requires
 sort_kinds-sorted-requires c = rows_hold c
 
 pub shape_ok-requires : goal.shape_ok-requires
-shape_ok-requires c = rows_hold c.before
+shape_ok-requires c = rows_hold (goal.at.shape_ok-requires c).After-flatten
 
 pub returns-then-not-shape_ok : goal.returns-then-not-shape_ok
 returns-then-not-shape_ok c =
-    let laid = laid_at c.before in
+    let laid = laid_at (goal.at.returns-then-not-shape_ok c).After-shape_ok in
     let given = (start laid).args in
     record {
       flat = laid.flatten.ensures;
       kinds = c.sort_kinds-sorted.ensures;
-      tested = tested_13 given.net given.state given.stream.now given.ends.now (state-tested c.before ∙ not-true _ c.if-not-shape_ok.true);
+      tested = tested_13 given.net given.state given.stream.now given.ends.now (state-tested (goal.at.returns-then-not-shape_ok c).After-shape_ok ∙ not-true _ c.if-not-shape_ok.true);
     }
 
 pub bounds-sorted-0 : goal.bounds-sorted-0
@@ -82,22 +82,22 @@ slice-aggregate-ends-fit c = search rules
 
 pub returns-then-not-ends_fit : goal.returns-then-not-ends_fit
 returns-then-not-ends_fit c =
-    let laid = laid_before c.before in
+    let laid = laid_before (goal.at.returns-then-not-ends_fit c).After-ends_fit in
     let given = (start laid).args in
-    let shape = state-tested c.before.before.before.before.before.before ∙ not-false _ c.if-not-shape_ok.false in
+    let shape = state-tested (goal.at.returns-then-not-ends_fit c).After-shape_ok ∙ not-false _ c.if-not-shape_ok.false in
     record {
       flat = laid.flatten.ensures;
       kinds = c.sort_kinds-sorted.ensures;
-      tested = tested_14 given.net given.state given.stream.now given.ends.now shape (ends-tested c.before ∙ not-true _ c.if-not-ends_fit.true);
+      tested = tested_14 given.net given.state given.stream.now given.ends.now shape (ends-tested (goal.at.returns-then-not-ends_fit c).After-ends_fit ∙ not-true _ c.if-not-ends_fit.true);
     }
 
 pub returns : goal.returns
 returns c =
-    let laid = laid_before c.before in
+    let laid = laid_before (goal.at.returns c).After-ends_fit in
     let given = (start laid).args in
-    let shape = state-tested c.before.before.before.before.before.before ∙ not-false _ c.if-not-shape_ok.false in
+    let shape = state-tested (goal.at.returns c).After-shape_ok ∙ not-false _ c.if-not-shape_ok.false in
     record {
       flat = laid.flatten.ensures;
       kinds = c.sort_kinds-sorted.ensures;
-      tested = tested_0 given.net given.state given.stream.now given.ends.now shape (ends-tested c.before ∙ not-false _ c.if-not-ends_fit.false);
+      tested = tested_0 given.net given.state given.stream.now given.ends.now shape (ends-tested (goal.at.returns c).After-ends_fit ∙ not-false _ c.if-not-ends_fit.false);
     }

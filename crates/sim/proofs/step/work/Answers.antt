@@ -28,7 +28,7 @@ laid c =
 pub signals_in-requires : goal.signals_in-requires
 signals_in-requires c =
     record {
-      given = laid c.before.before.before.before.before.before.before.before.before.before.before.before.before.before.before.before.before.before;
+      given = laid (goal.at.signals_in-requires c).Start;
       sized = (record { valids = refl; words = refl }, refl);
     }
 
@@ -39,11 +39,11 @@ moves_of-moved-requires c =
 pub registers-requires : goal.registers-requires
 registers-requires c =
     record {
-      rowed = (laid c.before.before.before.before.before.before.before.before.before.before.before.before.before.before.before.before.before.before.before.before.before.before.before.before.before.before.before.before.before.before.before).rowed;
-      kinds = (laid c.before.before.before.before.before.before.before.before.before.before.before.before.before.before.before.before.before.before.before.before.before.before.before.before.before.before.before.before.before.before.before).kinds;
-      shaped = (laid c.before.before.before.before.before.before.before.before.before.before.before.before.before.before.before.before.before.before.before.before.before.before.before.before.before.before.before.before.before.before.before).shaped;
+      rowed = (laid (goal.at.registers-requires c).Start).rowed;
+      kinds = (laid (goal.at.registers-requires c).Start).kinds;
+      shaped = (laid (goal.at.registers-requires c).Start).shaped;
       all_settled = c.signals_in.ensures.settled;
-      words_len = state-long c.before.before.before.before.before.before.before.before.before.before.before.before.before.before.before.before.before.before.before.before.before.before.before.before.before.before.before.before.before.before.before;
+      words_len = state-long (goal.at.registers-requires c).Start;
     }
 
 pub overflow_add-after : goal.overflow_add-after
@@ -60,5 +60,5 @@ returns c =
     let streams = stream_at given.rows.now given.stream.now given.ends.now in
     let masks = mask_at given.rows.now given.offer given.ready in
     stepped-is given.net given.plan c.requires.promises given.rows.now given.values.now c.requires.flat given.state c.requires.state_value.0 given.stream.now
-    given.ends.now c.requires.ends_value given.offer given.ready arrays.0 arrays.1.0 arrays.1.1.0 signals.ensures.worked registers.0 registers.1.0
+    given.ends.now c.requires.ends_value given.offer given.ready c.signals_in.new.valid c.signals_in.new.word c.signals_in.new.ready signals.ensures.worked c.registers.new.words c.registers.new.marks
     next.ensures.words_len_2.0 next.ensures.words_len_2.1 (next.ensures.by_index given.values.now streams masks) next.ensures.by_index_2 _ _ c.moves_of-moved.ensures

@@ -39,12 +39,12 @@ ask_word-walked-requires c =
 
 pub returns-then-not-valid-at : goal.returns-then-not-valid-at
 returns-then-not-valid-at c =
-    answered c.args.valid.now (chain c.before.before.before.before.before.before.before) (trail_no (cycle c.before.before.before.before.before.before.before) none_met true c.args.c) _ _ c.ask_word-walked.result
-    (from-word (next_no (cycle c.before.before.before.before.before.before.before)) (has_word c.before.before.before.before.before.before.before) (is_ready c.before.before.before.before.before.before.before) c.args.c (not-true (has_word c.before.before.before.before.before.before.before) c.if-not-valid-at.true)) c.ask_word-walked.ensures
+    answered c.args.valid.now (chain (goal.at.returns-then-not-valid-at c).Start) (trail_no (cycle (goal.at.returns-then-not-valid-at c).Start) none_met true c.args.c) _ _ c.ask_word-walked.result
+    (from-word (next_no (cycle (goal.at.returns-then-not-valid-at c).Start)) (has_word (goal.at.returns-then-not-valid-at c).Start) (is_ready (goal.at.returns-then-not-valid-at c).Start) c.args.c (not-true (has_word (goal.at.returns-then-not-valid-at c).Start) c.if-not-valid-at.true)) c.ask_word-walked.ensures
 
 pub returns-then-ready-at : goal.returns-then-ready-at
 returns-then-ready-at c =
-    let delivers = from-delivers (next_no (cycle c.before.before.before.before.before.before.before)) (has_word c.before.before.before.before.before.before.before) (is_ready c.before.before.before.before.before.before.before) c.args.c (not-false (has_word c.before.before.before.before.before.before.before) c.if-not-valid-at.false) c.if-ready-at.true in
+    let delivers = from-delivers (next_no (cycle (goal.at.returns-then-ready-at c).Start)) (has_word (goal.at.returns-then-ready-at c).Start) (is_ready (goal.at.returns-then-ready-at c).Start) c.args.c (not-false (has_word (goal.at.returns-then-ready-at c).Start) c.if-not-valid-at.false) c.if-ready-at.true in
     c.no_chain.ensures ∙ ap (chain_by (λ x. get_or c.args.valid.now x false)) (sym delivers)
 
 pub ask_ready-walked-requires : goal.ask_ready-walked-requires
@@ -56,5 +56,5 @@ ask_ready-walked-requires c =
 
 pub returns : goal.returns
 returns c =
-    answered c.args.valid.now (chain c.before.before.before.before.before.before.before.before.before.before) (trail_no (cycle c.before.before.before.before.before.before.before.before.before.before) none_met false c.args.c) _ _ c.ask_ready-walked.result
-    (from-ready (next_no (cycle c.before.before.before.before.before.before.before.before.before.before)) (has_word c.before.before.before.before.before.before.before.before.before.before) (is_ready c.before.before.before.before.before.before.before.before.before.before) c.args.c (not-false (has_word c.before.before.before.before.before.before.before.before.before.before) c.if-not-valid-at.false) c.if-ready-at.false) c.ask_ready-walked.ensures
+    answered c.args.valid.now (chain (goal.at.returns c).Start) (trail_no (cycle (goal.at.returns c).Start) none_met false c.args.c) _ _ c.ask_ready-walked.result
+    (from-ready (next_no (cycle (goal.at.returns c).Start)) (has_word (goal.at.returns c).Start) (is_ready (goal.at.returns c).Start) c.args.c (not-false (has_word (goal.at.returns c).Start) c.if-not-valid-at.false) c.if-ready-at.false) c.ask_ready-walked.ensures

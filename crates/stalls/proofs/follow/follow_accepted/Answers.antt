@@ -29,29 +29,29 @@ prepare-laid-requires c =
 
 pub returns-then-laid-ne0 : goal.returns-then-laid-ne0
 returns-then-laid-ne0 c =
-    let given = (start c.before.before.before).args in
+    let given = (start (goal.at.returns-then-laid-ne0 c).After-prepare-laid).args in
     c.no_chain.ensures
     ∙ refused-tested given.net given.state given.stream.now given.ends.now given.offer given.ready given.channel c.prepare-laid.result.refusal
     c.prepare-laid.ensures.tested c.if-laid-ne0.true
 
 pub returns-then-net-channel : goal.returns-then-net-channel
 returns-then-net-channel c =
-    let given = (start c.before.before.before.before.before).args in
-    let ok = fits c.before.before.before.before.before c.if-laid-ne0.false in
+    let given = (start (goal.at.returns-then-net-channel c).After-prepare-laid).args in
+    let ok = fits (goal.at.returns-then-net-channel c).After-prepare-laid c.if-laid-ne0.false in
     c.no_chain-then-net-channel.ensures ∙ refused-24 given.net given.state given.stream.now given.ends.now given.offer given.ready given.channel ok.0 ok.1 c.if-net-channel.true
 
 pub work-requires : goal.work-requires
 work-requires c =
     record {
-      promises = (start c.before.before.before.before.before.before.before).requires;
+      promises = (start (goal.at.work-requires c).After-prepare-laid).requires;
       flat = c.prepare-laid.ensures.flat;
       kinds = c.prepare-laid.ensures.kinds;
-      state_value = fits c.before.before.before.before.before.before.before c.if-laid-ne0.false;
+      state_value = fits (goal.at.work-requires c).After-prepare-laid c.if-laid-ne0.false;
       channel_lt_channels = c.if-net-channel.false;
     }
 
 pub returns : goal.returns
 returns c =
-    let given = (start c.before.before.before.before.before.before.before.before).args in
-    let ok = fits c.before.before.before.before.before.before.before.before c.if-laid-ne0.false in
+    let given = (start (goal.at.returns c).After-prepare-laid).args in
+    let ok = fits (goal.at.returns c).After-prepare-laid c.if-laid-ne0.false in
     c.work.ensures ∙ not-refused given.net given.state given.stream.now given.ends.now given.offer given.ready given.channel ok.0 ok.1 c.if-net-channel.false

@@ -22,7 +22,7 @@ chain_from-requires c =
     let given = c.args in
     let arrays = c.signals_in.new.1.1.1.1.1.1.1.1.1.1.1.1.1 in
     within_of given.net given.plan c.requires.promises given.rows.now given.values.now c.requires.flat given.state c.requires.state_value.0 given.stream.now
-    given.ends.now arrays.0 arrays.1.0 arrays.1.1.0 given.channel c.requires.channel_lt_channels
+    given.ends.now c.signals_in.new.valid c.signals_in.new.word c.signals_in.new.ready given.channel c.requires.channel_lt_channels
 
 pub returns : goal.returns
 returns c =
@@ -30,5 +30,5 @@ returns c =
     let arrays = c.signals_in.new.1.1.1.1.1.1.1.1.1.1.1.1.1 in
     c.chain_from.ensures
     ∙ chain-is given.net given.plan c.requires.promises given.rows.now given.values.now c.requires.flat given.state c.requires.state_value.0 given.stream.now
-    given.ends.now arrays.0 arrays.1.0 arrays.1.1.0 c.requires.state_value.1 given.offer given.ready c.signals_in.ensures.worked given.channel
+    given.ends.now c.signals_in.new.valid c.signals_in.new.word c.signals_in.new.ready c.requires.state_value.1 given.offer given.ready c.signals_in.ensures.worked given.channel
     c.requires.channel_lt_channels

@@ -18,7 +18,7 @@ pub loop-j-preserved : goal.loop-j-preserved
 loop-j-preserved c =
     let a = c.args in
     let l = c.loop-j in
-    (omega arith, c.out-1.given.1 ∙ l.invariant.1, written_more a.list.now a.out.now l.j (omega arith) (omega arith) l.out l.invariant.2 c.write_record.new.1.0 c.write_record.ensures)
+    (omega arith, c.out-1.given.1 ∙ l.invariant.1, written_more a.list.now a.out.now l.j (omega arith) (omega arith) l.out l.invariant.2 c.write_record.new.out c.write_record.ensures)
 
 pub returns : goal.returns
 returns c =
