@@ -82,8 +82,8 @@ PLACE = re.compile(r"(?:returns|requires|sub-result)-\d+")
 
 
 def check_laws(page, text):
-    """Names in backticks with a hyphen or an underscore inside are laws or definitions, or names of the code, the header, the tests or the tool."""
-    for name in sorted(set(re.findall(r"`([a-z][\w']*(?:[-_][\w']+)+)`", text)) - law_names() - code_names()):
+    """Names in backticks with a hyphen or an underscore inside, or with a capital first, are laws or definitions, or names of the code, the header, the tests or the tool."""
+    for name in sorted(set(re.findall(r"`([a-z][\w']*(?:[-_][\w']+)+|[A-Z]\w*[a-z]\w*)`", text)) - law_names() - code_names()):
         if not PLACE.fullmatch(name):
             fault(f"{page}: there is no law {name}")
 
@@ -119,7 +119,8 @@ def check_version():
 
 NAME = r"[^\s:(){}\[\]«».,;|]+"
 DECLARED = re.compile(rf"^\s*(?:(?:abbrev|unfoldable|opaque|irreducible)\s+)?(?:pub\s+)?({NAME})(?:\s*\{{[^}}]*\}})?\s+:(?:\s|$)")
-TYPE = re.compile(rf"^\s*(?:pub\s+)?(?:record|data)\s+({NAME})")
+TYPE = re.compile(rf"^\s*(?:(?:abbrev|pub)\s+)*(?:record|data)\s+({NAME})")
+CASE = re.compile(rf"^\s*\| ({NAME})")
 
 
 def antt_files():
@@ -129,10 +130,13 @@ def antt_files():
 
 @functools.cache
 def law_names():
-    """Every name that is declared in specifications and proofs, fields included."""
+    """Every name that is declared in specifications and proofs, fields and cases included, and their files."""
     found = set()
     for path in antt_files():
-        found.update(match.group(1) for match in map(DECLARED.match, path.read_text().splitlines()) if match)
+        lines = path.read_text().splitlines()
+        found.add(path.stem)
+        for pattern in (DECLARED, TYPE, CASE):
+            found.update(match.group(1) for match in map(pattern.match, lines) if match)
     return found
 
 
@@ -144,6 +148,7 @@ def code_names():
         text = path.read_text()
         found.update(re.findall(r"\b(?:fn|struct|enum|const|mod|type)\s+(\w+)", text))
         found.update(re.findall(r"\b(\w+)\s*:(?!:)", text))
+        found.update(re.findall(r"\b[A-Z]\w*", text))
     for folder, kinds in (("include", "h"), ("tests", "c h py"), ("examples", "c"), ("tools", "py")):
         for kind in kinds.split():
             for path in (ROOT / folder).glob(f"**/*.{kind}"):
