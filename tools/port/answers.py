@@ -79,7 +79,7 @@ class Function:
                 self.look("part of requires: " + ".".join(fields))
             return fields
         if first in OWN:
-            return fields
+            return [fields[0].replace("-", "_")] + fields[1:]
         for i in self.chain(place):
             old, new = self.info["places"][i][2]
             if norm(old) not in (first, re.sub("-lem$", "", first)) and norm(old).lower() != first.lower():
@@ -307,7 +307,7 @@ def blocks_of(text):
 def decl_name(lines):
     for l in lines:
         if not l.startswith("--"):
-            m = re.match(rf"(?:(?:abbrev|pub|unfoldable) )*({NAME})", l)
+            m = re.match(rf"(?:(?:abbrev|pub|unfoldable|record|data) )*({NAME})", l)
             return m[1]
     return ""
 
@@ -509,6 +509,8 @@ def main():
                             lines[at] = lines[at].replace("abbrev ", "abbrev pub ", 1) if lines[at].startswith("abbrev ") else "pub " + lines[at]
                         elif lines[at].startswith(("record", "data")):
                             lines[at] = "pub " + lines[at]
+                        if "record " in lines[at]:
+                            lines = [re.sub(rf"^  (?!pub )({NAME} :)", r"  pub \1", l) for l in lines]
                         shared.insert(0, (name if not lines[at].startswith("pub record") else lines[at].split()[2], "\n".join(lines)))
                         text = shared[0][1] + "\n\n" + text
                         grown = True

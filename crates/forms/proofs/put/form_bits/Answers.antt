@@ -14,7 +14,7 @@ use Rattle.forms.proofs.put.form_bits.Goals as goal
 -- a net has 64 blocks: its type says so
 long : (c : goal.Start) → c.args.net.size ≤ length c.args.net.blocks
 long c =
-    let all : length c.args.net.blocks ≡ 64 = simp length-map at c.well-formed.0.1.1.1.1.0.1.0.1 in
+    let all : length c.args.net.blocks ≡ 64 = simp length-map at c.well_formed.0.1.1.1.1.0.1.0.1 in
     omega (arith, c.requires)
 
 pub loop-i-init : goal.loop-i-init

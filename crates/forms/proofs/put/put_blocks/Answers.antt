@@ -19,7 +19,7 @@ use Rattle.forms.proofs.put.put_blocks.Goals as goal
 -- a net has 64 blocks: its type says so
 long : (c : goal.Start) → c.args.net.size ≤ length c.args.net.blocks
 long c =
-    let all : length c.args.net.blocks ≡ 64 = simp length-map at c.well-formed.1.0.1.1.1.1.0.1.0.1 in
+    let all : length c.args.net.blocks ≡ 64 = simp length-map at c.well_formed.1.0.1.1.1.1.0.1.0.1 in
     omega (arith, c.requires.0)
 
 pub loop-i-init : goal.loop-i-init

@@ -49,7 +49,7 @@ trace₀ c = c.args.trace.now
 -- the lengths that the arrays of a state have
 state-long : (c : Start) → (length (state c).words ≡ 64) × (length (state c).marks ≡ 64)
 state-long c =
-    let g = c.well-formed.1.1.1.1.1.0 in
+    let g = c.well_formed.1.1.1.1.1.0 in
     let x : length c.args.state.words ≡ 64 = simp length-map at g.1.1.1.0.1.0.1 in
     let y : length c.args.state.marks ≡ 64 = simp length-map at g.1.1.1.1.0.1.0.1 in
     (x, y)
