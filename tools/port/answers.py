@@ -67,9 +67,9 @@ class Function:
             return fields
         first = norm(fields[0])
         if first == "args" and len(fields) > 1:
-            return ["args", self.args.get(norm(fields[1]), fields[1])] + fields[2:]
+            return ["args", self.args.get(norm(fields[1]), fields[1].replace("-", "_"))] + fields[2:]
         if first == "ranges" and len(fields) > 1:
-            return ["ranges", self.args.get(norm(fields[1]), fields[1])] + fields[2:]
+            return ["ranges", self.args.get(norm(fields[1]), fields[1].replace("-", "_"))] + fields[2:]
         if first == "requires":
             pre = self.info["pre"]
             if pre and len(fields) > 1:

@@ -31,7 +31,7 @@ one_moved b c d j v ports h e m =
 pub returns-then-free_of : goal.returns-then-free_of
 returns-then-free_of c =
     let a = c.args in
-    let ten : length a.b.ports ≡ 10 = simp length-map at c.well_formed.0.1.1.1.1.1.0.1.0.1 in
+    let ten : length a.b.ports ≡ 10 = c.well_formed.0.1.1.1.1.1.0.1.0.1 in
     same_block a.c a.d a.b ten (sym c.free_of.ensures ∙ c.if-free_of.true)
 
 pub loop-j-init : goal.loop-j-init

@@ -38,10 +38,10 @@ abbrev words : Start → List ℕ
 words c = given c.args.bytes.now c.args.stream.now
 
 abbrev ends : Start → List ℕ
-ends c = given c.args.end-bytes.now c.args.ends.now
+ends c = given c.args.end_bytes.now c.args.ends.now
 
 abbrev masks : Start → List ℕ
-masks c = given c.args.mask-bytes.now c.args.masks.now
+masks c = given c.args.mask_bytes.now c.args.masks.now
 
 abbrev trace₀ : Start → List ℕ
 trace₀ c = c.args.trace.now
