@@ -1,6 +1,6 @@
 -- `runs::many::run_accepted` meets its contract: test after test, then the cycles.
 -- Assumes nothing.
-use mathlib.Core.Path.{◌≡◌, refl, subst}
+use mathlib.Core.Path.{◌≡◌, ◌∙◌, refl, sym, subst}
 use mathlib.Core.Bool.{true}
 use mathlib.Core.List.{List}
 use Prim.Native.Nat.{ℕ, ◌*◌, ◌/◌, ◌%◌}
@@ -15,7 +15,7 @@ use Rattle.cycles.specs.declared.State.{State}
 use Rattle.passes.specs.Rows.{Rowed}
 use Rattle.sim.proofs.Netted.{rowed}
 use Rattle.runs.specs.Runs.{run_refusal}
-use Rattle.runs.proofs.RefusalLaws.{holds_when, fails_when, shape_by, fit_by, refused_by, works_by, earns-13, earns-14, earns-15, earns-16, earns-none}
+use Rattle.runs.proofs.RefusalLaws.{shape_by, fit_by, refused_by, works_by, earns-13, earns-14, earns-15, earns-16, earns-none}
 use Rattle.runs.proofs.many.run_accepted.Lts as lts
 use Rattle.runs.proofs.many.run_accepted.Tie as tie
 use Rattle.runs.proofs.many.run_accepted.Reads as reads
@@ -99,7 +99,7 @@ shape_test c =
     shape_by (net (start f)) (rows f) (values f) f.flatten.ensures (state (start f)) c.shape_ok.result c.shape_ok.ensures
 
 shaped : (c : Else-not-shape_ok) → shape_ok (net (start (flat-shape c.before))) (state (start (flat-shape c.before))) ≡ true
-shaped c = holds_when c.shape_ok.result (shape_ok (net (start (flat-shape c.before))) (state (start (flat-shape c.before)))) (shape_test c.before) c.if-not-shape_ok.false
+shaped c = sym (shape_test c.before) ∙ c.if-not-shape_ok.false
 
 ends_test : (c : After-ends_fit) → c.ends_fit.result ≡ ends_fit (net (start (flat_fit c))) (words (start (flat_fit c))) (ends (start (flat_fit c)))
 ends_test c =
@@ -109,9 +109,7 @@ ends_test c =
     k.ensures c.numbers_in.result c.numbers_in.ensures c.ends_fit.result c.ends_fit.ensures
 
 fits : (c : Else-not-ends_fit) → ends_fit (net (start (flat_fit c.before))) (words (start (flat_fit c.before))) (ends (start (flat_fit c.before))) ≡ true
-fits c =
-    let s = start (flat_fit c.before) in
-    holds_when c.ends_fit.result (ends_fit (net s) (words s) (ends s)) (ends_test c.before) c.if-not-ends_fit.false
+fits c = sym (ends_test c.before) ∙ c.if-not-ends_fit.false
 
 even : (c : Else-count-eq1) → length (masks (start (flat-count c.before))) % 2 ≡ 1 → ⊥
 even c = subst (λ (k : ℕ). k % 2 ≡ 1 → ⊥) c.numbers_in-count.ensures c.if-count-eq1.false
@@ -130,7 +128,7 @@ works : (c : Else-state-count-gt1048576) → (
     )
 works c =
     let s = start (flat-count c.before.before.before) in
-    earns-none (net s) (state s) (words s) (ends s) (masks s) (trace s) s.pre.1 (shaped (shape_fit c.before.before.before.before.before)) (fits c.before.before.before.before) (even c.before.before)
+    earns-none (net s) (state s) (words s) (ends s) (masks s) (trace s) s.requires.net_value (shaped (shape_fit c.before.before.before.before.before)) (fits c.before.before.before.before) (even c.before.before)
     (omega (arith, c.if-state-count-gt1048576.false, c.numbers_in-count.ensures))
 
 pub flatten-requires : goal.flatten-requires
@@ -147,9 +145,9 @@ shape_ok-requires c = rows-sound c.before.before
 pub returns-then-not-shape_ok : goal.returns-then-not-shape_ok
 returns-then-not-shape_ok c =
     let s = start (flat-shape c.before.before.before) in
-    let no = fails_when c.shape_ok.result (shape_ok (net s) (state s)) (shape_test c.before.before.before) c.if-not-shape_ok.true in
+    let no = sym (shape_test c.before.before.before) ∙ c.if-not-shape_ok.true in
     let all = refused_by (net s) (state s) (words s) (ends s) (masks s) (trace s) 13
-    (earns-13 (net s) (state s) (words s) (ends s) (masks s) (trace s) s.pre.1 no)
+    (earns-13 (net s) (state s) (words s) (ends s) (masks s) (trace s) s.requires.net_value no)
     (λ z. omega (arith, z)) _ c.refused.ensures in
     record { value = all.0; trace_after = all.1 }
 
@@ -162,9 +160,9 @@ bounds-sorted-0 c = omega arith
 pub returns-then-not-ends_fit : goal.returns-then-not-ends_fit
 returns-then-not-ends_fit c =
     let s = start (flat_fit c.before.before.before) in
-    let no = fails_when c.ends_fit.result (ends_fit (net s) (words s) (ends s)) (ends_test c.before.before.before) c.if-not-ends_fit.true in
+    let no = sym (ends_test c.before.before.before) ∙ c.if-not-ends_fit.true in
     let all = refused_by (net s) (state s) (words s) (ends s) (masks s) (trace s) 14
-    (earns-14 (net s) (state s) (words s) (ends s) (masks s) (trace s) s.pre.1 (shaped (shape_fit c.before.before.before)) no)
+    (earns-14 (net s) (state s) (words s) (ends s) (masks s) (trace s) s.requires.net_value (shaped (shape_fit c.before.before.before)) no)
     (λ z. omega (arith, z)) _ c.refused-then-not-ends_fit.ensures in
     record { value = all.0; trace_after = all.1 }
 
@@ -173,7 +171,7 @@ returns-then-count-eq1 c =
     let s = start (flat-count c.before.before.before) in
     let odd = subst (λ (k : ℕ). k % 2 ≡ 1) c.numbers_in-count.ensures c.if-count-eq1.true in
     let all = refused_by (net s) (state s) (words s) (ends s) (masks s) (trace s) 15
-    (earns-15 (net s) (state s) (words s) (ends s) (masks s) (trace s) s.pre.1 (shaped (shape_fit c.before.before.before.before.before)) (fits c.before.before.before.before) odd)
+    (earns-15 (net s) (state s) (words s) (ends s) (masks s) (trace s) s.requires.net_value (shaped (shape_fit c.before.before.before.before.before)) (fits c.before.before.before.before) odd)
     (λ z. omega (arith, z)) _ c.refused-then-count-eq1.ensures in
     record { value = all.0; trace_after = all.1 }
 
@@ -181,7 +179,7 @@ pub returns-then-state-count-gt1048576 : goal.returns-then-state-count-gt1048576
 returns-then-state-count-gt1048576 c =
     let s = start (flat-count c.before.before.before.before.before) in
     let all = refused_by (net s) (state s) (words s) (ends s) (masks s) (trace s) 16
-    (earns-16 (net s) (state s) (words s) (ends s) (masks s) (trace s) s.pre.1 (shaped (shape_fit c.before.before.before.before.before.before.before)) (fits c.before.before.before.before.before.before) (even c.before.before.before.before)
+    (earns-16 (net s) (state s) (words s) (ends s) (masks s) (trace s) s.requires.net_value (shaped (shape_fit c.before.before.before.before.before.before.before)) (fits c.before.before.before.before.before.before) (even c.before.before.before.before)
     (omega (arith, c.if-state-count-gt1048576.true, c.numbers_in-count.ensures)))
     (λ z. omega (arith, z)) _ c.refused-then-state-count-gt1048576.ensures in
     record { value = all.0; trace_after = all.1 }
@@ -192,8 +190,8 @@ run_cycles-requires c =
     let kinds = c.sort_kinds-sorted.ensures in
     let shape = shaped (shape_fit c.before.before.before.before.before.before.before.before.before) in
     record {
-      promises = s.pre.0;
-      net_value = s.pre.1;
+      promises = s.requires.promises;
+      net_value = s.requires.net_value;
       flat = (flat-count c.before.before.before.before.before.before.before).flatten.ensures;
       kinds = kinds;
       state_value = (shape, c.if-state-count-gt1048576.false);

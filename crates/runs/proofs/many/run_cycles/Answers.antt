@@ -69,8 +69,8 @@ trace₀ c = c.args.trace.now
 state-long : (c : Start) → (length (state c).words ≡ 64) × (length (state c).marks ≡ 64)
 state-long c =
     let g = c.well_formed.1.1.1.1.1.0 in
-    let x : length c.args.state.words ≡ 64 = simp length-map at g.1.1.1.0.1.0.1 in
-    let y : length c.args.state.marks ≡ 64 = simp length-map at g.1.1.1.1.0.1.0.1 in
+    let x : length c.args.state.words ≡ 64 = g.1.1.1.0.1.0.1 in
+    let y : length c.args.state.marks ≡ 64 = g.1.1.1.1.0.1.0.1 in
     (x, y)
 
 -- the count stays in its range
@@ -250,20 +250,20 @@ pub cycle-k-requires : goal.cycle-k-requires
 cycle-k-requires c =
     let l = (body c.before.before).before in
     let s = start l in
-    let g : Going (net s) (state s) (words s) (ends s) (masks s) (trace₀ s) l.loop.i l.loop.used l.loop.words l.loop.marks l.loop.trace = l.loop.inv.0 in
-    let kinds = s.pre.1.1.1.0 in
-    let pick = l.before.before.before.before.before.before.before.before.before.pick in
-    let pick2 = l.before.before.before.before.before.before.before.pick2 in
+    let g : Going (net s) (state s) (words s) (ends s) (masks s) (trace₀ s) l.loop-i.i l.loop-i.used l.loop-i.words l.loop-i.marks l.loop-i.trace = l.loop-i.invariant.0 in
+    let kinds = s.requires.kinds in
+    let pick = l.pick-ahead in
+    let pick2 = l.pick-behind in
     record {
       rowed = rows-sound s;
-      along = (pick.ensures.0 (forth-whole s), pick2.ensures.0 (rear-whole s));
-      ahead_count_bound = (pick.ensures.1, pick2.ensures.1);
+      along = (pick.ensures.along (forth-whole s), pick2.ensures.along (rear-whole s));
+      ahead_count_bound = (pick.ensures.count_bound, pick2.ensures.count_bound);
       kinds = kinds;
-      shaped = shaped_of (net s) (rows s) (values s) s.pre.1.1.0 (size-high (net s) s.pre.0.fields) (state_in (state s) l.loop.i l.loop.words l.loop.marks) g.shape;
-      fitting = fitting (net s) (rows s) (values s) s.pre.1.1.0 (words s) (ends s) s.pre.0.fields s.pre.0.joins _ _ (kinds 0 (omega arith)) s.pre.1.1.1.1.1.0;
-      sized = (l.loop.inv.2, l.loop.inv.3);
-      words_len = (g.words_long, g.marks-long, l.loop.inv.4);
-      channels_bound = (channels-high (net s) s.pre.0.fields, omega (arith, in_range s));
+      shaped = shaped_of (net s) (rows s) (values s) s.requires.flat (size-high (net s) s.requires.promises.fields) (state_in (state s) l.loop-i.i l.loop-i.words l.loop-i.marks) g.shape;
+      fitting = fitting (net s) (rows s) (values s) s.requires.flat (words s) (ends s) s.requires.promises.fields s.requires.promises.joins _ _ (kinds 0 (omega arith)) s.requires.ends_value;
+      sized = (l.loop-i.invariant.2, l.loop-i.invariant.3);
+      words_len = (g.words_long, g.marks-long, l.loop-i.invariant.4);
+      channels_bound = (channels-high (net s) s.requires.promises.fields, omega (arith, in_range s));
     }
 
 pub overflow_cast-stopped : goal.overflow_cast-stopped
@@ -278,7 +278,7 @@ overflow_cast-i-then-k-eq129 c = omega (arith, inside (body c.before.before.befo
 pub overflow_cast-used : goal.overflow_cast-used
 overflow_cast-used c =
     let l = at_loop c.before.before.before.before.before in
-    omega (arith, inside (body c.before.before.before.before.before.before.before), in_range (start l), l.loop.inv.0.few)
+    omega (arith, inside (body c.before.before.before.before.before.before.before), in_range (start l), l.loop-i.invariant.0.few)
 
 pub shape_of-trace-then-k-eq129 : goal.shape_of-trace-then-k-eq129
 shape_of-trace-then-k-eq129 c = (after_cycle c.before.before.before.before.before.before).long c.if-k-eq129.true
