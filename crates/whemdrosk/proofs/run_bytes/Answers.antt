@@ -23,9 +23,6 @@ returns-then-ends-ne0 c =
       trace_after = o.1;
     }
 
-slice-aggregate-run-given : tie.Need-slice-aggregate-run-given
-slice-aggregate-run-given c = search rules
-
 pub returns-then-tried-ne0 : goal.returns-then-tried-ne0
 returns-then-tried-ne0 c =
     let a = c.args in
