@@ -11,13 +11,13 @@ use native.Mathlib.Omega.{arith}
 use borrow.Author.Tests.{not-false, eq-eqb, lt-ltb, leb-true}
 use lib.Dec.{eqb, leb, ltb}
 use lib.ListN.{length}
-use Rattle.blocks.specs.Folds.{lowest, bit}
+use Rattle.blocks.specs.Folds.{bit}
 use Rattle.blocks.specs.Kinds.{Kind, source, sink, operator, constant, fork, mux, demux, merge, buffer, control, unused, kind_of}
 use Rattle.blocks.specs.Ports.{m_ok, n_in, n_out}
 use Rattle.blocks.specs.Shape.{in_shape}
 use Rattle.blocks.specs.Words.{reach}
 use Rattle.blocks.specs.Signals.{named, chosen, shown, valid_at, full}
-use Rattle.blocks.specs.Equations.{went, offers, done_at, all_done, winner, won, mux_ready, out_of, ready_of}
+use Rattle.blocks.specs.Equations.{went, offers, done_at, all_done, winner, won, out_of, ready_of}
 use Rattle.blocks.specs.Asking.{lacks, holds_up}
 use Rattle.blocks.specs.declared.Sig.{Sig}
 use Rattle.blocks.specs.declared.Reg.{Reg}

@@ -1,7 +1,7 @@
 -- The sentences of specs/Paragraphs.antt, proved kind by kind from the block's equations (`Works` of crate queue), and then of every block in a step: its signals satisfy
 -- the equations (`solves` of crate cycles).
 -- Assumes nothing.
-use Prim.Native.Nat.{ℕ, suc, ◌+◌, ◌-◌, ◌<◌}
+use Prim.Native.Nat.{ℕ, suc, ◌+◌, ◌<◌}
 use mathlib.Core.Path.{◌≡◌, refl, sym, ap, ◌∙◌}
 use mathlib.Core.Bool.{Bool, true, false, ◌&&◌}
 use mathlib.Core.Logic.{◌≢◌}

@@ -3,8 +3,8 @@
 -- that it enters, which asks the channels that it writes. As many questions in a row as the net has blocks are enough for an accepted net: `solves` and
 -- `unique` (proofs/Solution.antt) say that the answers satisfy every block's equations, and that no other signals do.
 -- Assumes nothing.
-use Rattle.std.specs.Prelude.{ℕ, zero, suc, Bool, true, false, ◌&&◌, List, ltb}
-use Rattle.blocks.specs.Signals.{nothing, valid_at}
+use Rattle.std.specs.Prelude.{ℕ, zero, suc, Bool, false, ◌&&◌, List, ltb}
+use Rattle.blocks.specs.Signals.{nothing}
 use Rattle.blocks.specs.Equations.{out_of, ready_of, next_of}
 use Rattle.blocks.specs.declared.Sig.{Sig}
 use Rattle.blocks.specs.declared.Reg.{Reg}

@@ -1,7 +1,7 @@
 -- States as values: 64 entries of registers and a count; the fresh state, the state after a cycle, and when a state is in shape (document 01, "A fresh state
 -- has" and "A state is in shape when"; refusal 13).
 -- Assumes nothing.
-use Rattle.std.specs.Prelude.{ℕ, zero, suc, ◌+◌, Bool, cond, ◌&&◌, List, [], ◌∷◌, leb, ltb, get_or}
+use Rattle.std.specs.Prelude.{ℕ, zero, suc, Bool, cond, ◌&&◌, List, [], ◌∷◌, leb, ltb, get_or}
 use Rattle.blocks.specs.Folds.{all_below}
 use Rattle.blocks.specs.Kinds.{Kind, kind_of}
 use Rattle.blocks.specs.Signals.{empty}

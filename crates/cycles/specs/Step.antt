@@ -1,6 +1,6 @@
 -- What `fresh` and `step` answer, refusals in document 01's checking order (12, 13, 14, 15, 16). `ok` says whether the net value is accepted.
 -- Assumes nothing.
-use Rattle.std.specs.Prelude.{ℕ, ◌+◌, Bool, true, false, cond, not, List, ltb, eqb, replicate}
+use Rattle.std.specs.Prelude.{ℕ, ◌+◌, Bool, false, cond, not, List, ltb, eqb, replicate}
 use Rattle.blocks.specs.Folds.{one}
 use Rattle.nets.specs.declared.Net.{Net}
 use Rattle.cycles.specs.Streams.{ends_fit}

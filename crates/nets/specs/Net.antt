@@ -1,6 +1,6 @@
 -- A net value: its fields (refusals 3 to 6 and the rest of 12), its connections (8), its sources and sinks (9), in document 01's order of checking.
 -- Assumes nothing.
-use Rattle.std.specs.Prelude.{Bool, true, false, cond, not, ◌&&◌, List, ℕ, suc, zero, ◌*◌, ◌/◌, ◌%◌, leb, ltb, eqb, get_or}
+use Rattle.std.specs.Prelude.{Bool, true, false, cond, ◌&&◌, ℕ, suc, zero, ◌*◌, ◌/◌, ◌%◌, leb, ltb, eqb, get_or}
 use Rattle.blocks.specs.Folds.{all_below, count_below}
 use Rattle.nets.specs.Block.{no_block, ports_ok, block_ok, on_side}
 use Rattle.nets.specs.declared.Block.{Block}

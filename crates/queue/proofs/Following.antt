@@ -1,7 +1,7 @@
 -- A list of steps, followed step by step by firings with choices that begin with those that the steps make: a refused step changes nothing, and a cycle is two passes
 -- of firings through the data order, which put every word that it offers, delivered or not. One pass more puts every word that the next cycle offers, whatever its masks.
 -- Assumes nothing.
-use Prim.Native.Nat.{ℕ, ◌+◌, ◌<◌}
+use Prim.Native.Nat.{ℕ, ◌<◌}
 use mathlib.Core.Path.{◌≡◌, refl, sym, ap, ◌∙◌, subst}
 use mathlib.Core.Bool.{Bool, false}
 use mathlib.Core.Logic.{◌≢◌, ⊎_elim}

@@ -1,22 +1,22 @@
 -- In the sample run of a net with at most 32 sources every source gets 1, 2, 3.
 -- Assumes nothing.
-use mathlib.Core.Path.{◌≡◌, refl, sym, ap, ap₂, ◌∙◌}
-use mathlib.Core.Bool.{Bool, true, false, cond, ◌&&◌}
+use mathlib.Core.Path.{◌≡◌, refl, ◌∙◌}
+use mathlib.Core.Bool.{Bool, true, false, ◌&&◌}
 use mathlib.Core.List.{List, [], ◌∷◌}
-use Prim.Native.Nat.{ℕ, zero, suc, ◌+◌, ◌*◌, ◌≤◌, ◌<◌}
+use Prim.Native.Nat.{ℕ, zero, suc, ◌+◌, ◌*◌, ◌<◌}
 use native.Mathlib.Omega.{arith}
 use borrow.Author.Tests.{eq-eqb, eqb-true}
 use lib.Dec.{eqb}
 use lib.ListN.{length, get_or}
 use lib.Seq.{slice}
-use Rattle.blocks.specs.Folds.{all_below, count_below}
+use Rattle.blocks.specs.Folds.{all_below}
 use Rattle.blocks.proofs.Folds.{and_both, and_1, and_2, clash, all_at, count_step}
 use Rattle.nets.specs.Net.{is_kind, kind_count, number_among}
 use Rattle.nets.specs.Verdict.{Joined}
 use Rattle.nets.specs.declared.Net.{Net}
 use Rattle.cycles.specs.State.{tab}
 use Rattle.cycles.specs.Streams.{ascend, ends_fit, end_before, stream_of}
-use Rattle.cycles.proofs.States.{length-tab, get_d_tab}
+use Rattle.cycles.proofs.States.{get_d_tab}
 use Rattle.sample.specs.Sample.{sample_words, ends_for}
 use Rattle.sample.proofs.Giving.{few_sources, length-ends}
 

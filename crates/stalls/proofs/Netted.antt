@@ -11,7 +11,7 @@ use lib.Seq.{sets}
 use Rattle.blocks.specs.Kinds.{Kind, kind_of}
 use Rattle.blocks.specs.Ports.{n_in, n_out}
 use Rattle.blocks.specs.Signals.{valid_at}
-use Rattle.blocks.specs.Asking.{Handed, handed}
+use Rattle.blocks.specs.Asking.{Handed}
 use Rattle.blocks.specs.declared.Sig.{Sig}
 use Rattle.blocks.specs.declared.Reg.{Reg}
 use Rattle.blocks.proofs.Asking.{handed_cases, handed_local, handed_plain}
@@ -40,7 +40,6 @@ use Rattle.asking.specs.Questions.{goes_to, end_else, next_at}
 use Rattle.chains.specs.Chain.{Trail, chain_from}
 use Rattle.chains.specs.Rows.{Seen, seen, next_row, next_no, Wired, Within}
 use Rattle.asking.specs.declared.Ending.{Ending}
-use Rattle.asking.specs.declared.Next.{Next}
 use Rattle.asking.specs.declared.Next.TheVariants.{Word, Ready}
 use Rattle.chains.proofs.Trails.{stays, chain_alike, chain_same}
 use Rattle.stalls.specs.Calls.{next_over, chain_of, chain_by, answer_of}

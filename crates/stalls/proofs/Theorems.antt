@@ -9,12 +9,12 @@ use mathlib.Core.Option.{Option, none, some}
 use native.Mathlib.Omega.{arith}
 use borrow.Author.Tests.{lt-ltb, not-true}
 use lib.Dec.{ltb, eqb}
-use lib.ListN.{length, get_or, get_or-replicate, length-replicate}
+use lib.ListN.{get_or, get_or-replicate, length-replicate}
 use Rattle.blocks.specs.Folds.{one}
 use Rattle.blocks.specs.Kinds.{Kind, source, sink, operator, constant, fork, mux, demux, merge, buffer, control, unused}
 use Rattle.blocks.specs.Ports.{n_in, n_out}
 use Rattle.blocks.specs.Equations.{out_of}
-use Rattle.blocks.specs.Asking.{needs, looks, Handed, handed}
+use Rattle.blocks.specs.Asking.{needs, looks, handed}
 use Rattle.blocks.specs.declared.Sig.{Sig}
 use Rattle.blocks.specs.declared.Reg.{Reg}
 use Rattle.blocks.proofs.Folds.{clash, and_1, and_2, and_both, and_false_1, and_false_2, count_bound}
@@ -28,7 +28,7 @@ use Rattle.nets.specs.declared.Verdict.TheVariants.{Accepted}
 use Rattle.nets.proofs.Nets.{size-high, channels-high, m-ok}
 use Rattle.nets.proofs.Decided.{accepted, accepted_true}
 use Rattle.cycles.specs.Streams.{mask_of, stream_of}
-use Rattle.cycles.specs.Wires.{View, view_of, out_port, consumer, in_port}
+use Rattle.cycles.specs.Wires.{View, view_of, consumer, in_port}
 use Rattle.cycles.specs.Cycle.{Signals, signals_of, moves}
 use Rattle.cycles.specs.State.{regs_of, shape_ok}
 use Rattle.cycles.specs.Step.{refusal_by, refused_step, stepped_by, step_by}
@@ -47,7 +47,7 @@ use Rattle.asking.specs.declared.Next.{Next}
 use Rattle.asking.specs.declared.Next.TheVariants.{Word, Ready, End}
 use Rattle.chains.proofs.Trails.{LeadsBy, past_leads}
 use Rattle.asking.proofs.Cases.{Asked, Sound, sound_of, no_rule_so, ends_so}
-use Rattle.stalls.specs.Calls.{asked_of, next_over, chain_of, answer_of, follow_of}
+use Rattle.stalls.specs.Calls.{asked_of, next_over, chain_of, follow_of}
 use Rattle.stalls.specs.Waits.{Each, Stands, Runs, Waits, port_of, EndsAtBlock, EndsSo, Answers, ChainWaits, ChainEnds, NotDelivered}
 use Rattle.stalls.proofs.Answers.{Taken, taken, not-refused}
 use Rattle.stalls.proofs.Paths.{Runs_so, Reached, reached, ends_of}

@@ -1,6 +1,5 @@
 -- `bays::first_wanting` meets its contract: bay after bay from the turn on. The loop's invariant is that no bay asked before wants a cycle.
 -- Assumes nothing.
-use Prim.Native.Nat.{◌-◌}
 use mathlib.Core.Path.{◌≡◌, sym, ap, ◌∙◌}
 use mathlib.Core.Bool.{false}
 use native.Mathlib.Omega.{arith}

@@ -1,6 +1,5 @@
 -- `compare::common` meets its contract. The invariant: the first i words agree, so that what the lists share is i and what they share past i.
 -- Assumes nothing.
-use Prim.Native.Nat.{◌-◌}
 use native.Mathlib.Numerals.{add-one}
 use native.Mathlib.Omega.{arith}
 use borrow.Author.Rules.{rules}

@@ -1,6 +1,5 @@
 -- `placed::count_added` meets its contract: code after code; the loop's invariant is that the sum and what the codes from i on add make up the whole.
 -- Assumes nothing.
-use Prim.Native.Nat.{◌-◌}
 use native.Mathlib.Omega.{arith}
 use lib.ListN.{get_or}
 use Rattle.placed.proofs.Codes.{adds_small, added_next, added-done}

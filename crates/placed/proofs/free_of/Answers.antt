@@ -1,8 +1,7 @@
 -- `placed::free_of` meets its contract: port after port; the loop's invariant is that the ports before j are elsewhere.
 -- Assumes nothing.
 use mathlib.Core.Path.{sym, ap}
-use mathlib.Core.Bool.{true, not}
-use Prim.Native.Nat.{◌-◌}
+use mathlib.Core.Bool.{not}
 use native.Mathlib.Omega.{arith}
 use borrow.Author.Tests.{eq-eqb, ne_eqb}
 use Rattle.blocks.proofs.Folds.{all_none, all_more, all_fails, all_less}

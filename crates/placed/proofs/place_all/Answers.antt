@@ -1,7 +1,6 @@
 -- `placed::place_all` meets its contract: code after code; the loop's invariant is that the codes from i on make the placed net of what there is.
 -- Assumes nothing.
 use mathlib.Core.Path.{refl, sym, ◌∙◌}
-use Prim.Native.Nat.{◌-◌}
 use native.Mathlib.Omega.{arith}
 use Rattle.placed.proofs.Codes.{going_room, going_more, placed-done}
 use Rattle.placed.proofs.place_all.Goals as goal

@@ -1,6 +1,6 @@
 -- `placed::port_moved` meets its contract: by the two tests.
 -- Assumes nothing.
-use borrow.Author.Tests.{eq-eqb, ne_eqb, not-true, not-false}
+use borrow.Author.Tests.{eq-eqb, ne_eqb}
 use Rattle.placed.proofs.port_moved.Goals as goal
 
 pub returns-then-not-input : goal.returns-then-not-input

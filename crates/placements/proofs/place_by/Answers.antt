@@ -3,7 +3,6 @@
 use mathlib.Core.Path.{◌≡◌, sym, ◌∙◌}
 use mathlib.Core.Bool.{true}
 use native.Mathlib.Omega.{arith}
-use borrow.Author.Tests.{not-true, not-false}
 use Rattle.placements.specs.Calls.{codes_ok, room_for}
 use Rattle.placements.proofs.Answering.{codes_long, fitting, base-refused, codes-refused, room-refused, loops-judged}
 use Rattle.placements.proofs.place_by.Goals as goal

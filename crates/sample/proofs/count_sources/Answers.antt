@@ -1,6 +1,6 @@
 -- `sample::count_sources` meets its contract and ends. The loop's invariant: k is the number of sources among the first b blocks. The measure is what is left of the blocks.
 -- Assumes nothing.
-use Prim.Native.Nat.{◌+◌, ◌-◌}
+use Prim.Native.Nat.{◌+◌}
 use mathlib.Core.Path.{◌≡◌, refl, sym, ap, ◌∙◌}
 use borrow.Author.Rules.{rules}
 use native.Mathlib.Omega.{arith}

@@ -1,6 +1,6 @@
 -- `sample::ends_of_three` meets its contract and ends. The loop's invariant: the first k ends are 3, 6, 9 and so on. The measure is what is left of 32.
 -- Assumes nothing.
-use Prim.Native.Nat.{◌+◌, ◌*◌, ◌-◌}
+use Prim.Native.Nat.{◌+◌, ◌*◌}
 use mathlib.Core.Path.{refl}
 use native.Mathlib.Omega.{arith}
 use lib.ListN.{length-set}

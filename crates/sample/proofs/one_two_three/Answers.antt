@@ -1,6 +1,6 @@
 -- `sample::one_two_three` meets its contract and ends. The loop's invariant: the first i words are 1, 2, 3 over and over. The measure is what is left of 96.
 -- Assumes nothing.
-use Prim.Native.Nat.{◌+◌, ◌-◌, ◌%◌}
+use Prim.Native.Nat.{◌+◌, ◌%◌}
 use mathlib.Core.Path.{refl}
 use native.Mathlib.Omega.{arith}
 use lib.ListN.{length-set}

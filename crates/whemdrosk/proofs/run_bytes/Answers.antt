@@ -2,7 +2,6 @@
 use mathlib.Core.Path.{◌∙◌}
 use native.Mathlib.Omega.{arith}
 use Rattle.whemdrosk.proofs.Answers.{over-words, over-ends, over-before, over-15, over-run, fields-small}
-use borrow.Author.Rules.{rules}
 use Rattle.whemdrosk.proofs.run_bytes.Goals as goal
 
 pub returns-then-words-ne0 : goal.returns-then-words-ne0

@@ -1,6 +1,6 @@
 -- `compare::gathering::count_on` meets its contract. The loop's invariant: k is the number of the channel's words among the first i records.
 -- Assumes nothing.
-use Prim.Native.Nat.{◌-◌, ◌<◌}
+use Prim.Native.Nat.{◌<◌}
 use mathlib.Core.Path.{refl, ap, ◌∙◌}
 use native.Mathlib.Omega.{arith}
 use borrow.Author.Rules.{rules}

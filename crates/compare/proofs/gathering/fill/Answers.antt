@@ -1,7 +1,7 @@
 -- `compare::gathering::fill` meets its contract. The loop's invariant: the channel's words among the first i records, k of them, stand at the front of the list, and what follows is
 -- as it was.
 -- Assumes nothing.
-use Prim.Native.Nat.{ℕ, ◌-◌, ◌<◌}
+use Prim.Native.Nat.{ℕ, ◌<◌}
 use mathlib.Core.Path.{◌≡◌, ap, ◌∙◌}
 use mathlib.Core.List.{List}
 use native.Mathlib.Omega.{arith}

@@ -1,10 +1,10 @@
 -- `forms::put::form_bits` meets its contract. The loop's invariant: the bits are the header's and those of the blocks passed, at most 110 a block. The
 -- measure is what is left of the blocks.
 -- Assumes nothing.
-use Prim.Native.Nat.{ℕ, ◌+◌, ◌-◌, ◌≤◌}
+use Prim.Native.Nat.{ℕ, ◌+◌, ◌≤◌}
 use native.Mathlib.Omega.{arith}
 use mathlib.Core.Path.{◌≡◌, refl, sym, ◌∙◌, ap}
-use lib.ListN.{length, length-map}
+use lib.ListN.{length}
 use borrow.Author.Rules.{rules}
 use Rattle.nets.specs.Net.{block_at}
 use Rattle.stored.specs.Form.{put_many}

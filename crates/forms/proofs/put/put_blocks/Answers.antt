@@ -1,12 +1,12 @@
 -- `forms::put::put_blocks` meets its contract. The loop's invariant: the blocks passed are written over the buffer's bits from bit 32 on, up to the
 -- position, and the buffer's length is kept. The measure is what is left of the blocks.
 -- Assumes nothing.
-use Prim.Native.Nat.{ℕ, ◌-◌, ◌<◌, ◌≤◌}
+use Prim.Native.Nat.{ℕ, ◌<◌, ◌≤◌}
 use native.Mathlib.Omega.{arith}
 use mathlib.Core.Path.{◌≡◌, refl, ◌∙◌, ap}
 use mathlib.Core.List.{List, []}
 use mathlib.Core.Bool.{Bool}
-use lib.ListN.{length, length-map}
+use lib.ListN.{length}
 use borrow.Author.Rules.{rules}
 use Rattle.reader.specs.Bits.{bits_of}
 use Rattle.reader.proofs.Bits.{length_bits_of}

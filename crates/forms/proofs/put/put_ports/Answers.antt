@@ -1,7 +1,7 @@
 -- `forms::put::put_ports` meets its contract. The loop's invariant: the bits of the first i ports are written over the buffer's bits, and the buffer's length
 -- is kept. The measure is what is left of the count.
 -- Assumes nothing.
-use Prim.Native.Nat.{ℕ, ◌+◌, ◌-◌, ◌*◌, ◌≤◌}
+use Prim.Native.Nat.{ℕ, ◌+◌, ◌*◌, ◌≤◌}
 use native.Mathlib.Omega.{arith}
 use mathlib.Core.Path.{◌≡◌, refl, ◌∙◌, ap}
 use mathlib.Core.List.{List, []}

@@ -1,7 +1,6 @@
 -- `nets::fields::kind_count` meets its contract. The loop's invariant: `n` is the count of the rows before `i`; the measure is what is left of the size.
 -- Assumes nothing.
 use mathlib.Core.Path.{◌≡◌, sym, ◌∙◌, ap}
-use Prim.Native.Nat.{◌-◌}
 use native.Mathlib.Omega.{arith}
 use borrow.Author.Rules.{rules}
 use borrow.Author.Tests.{eq-eqb, ne_eqb}

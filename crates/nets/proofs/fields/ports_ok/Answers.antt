@@ -1,10 +1,8 @@
 -- `nets::fields::ports_ok` meets its contract. The loop's invariant: the ports before `i` are in range; the measure is what is left of the ten ports.
 -- Assumes nothing.
 use mathlib.Core.Path.{sym, ◌∙◌}
-use mathlib.Core.Bool.{true}
-use Prim.Native.Nat.{◌-◌}
 use borrow.Author.Tests.{not-true, not-false}
-use Rattle.nets.specs.Block.{port_ok, ports_ok}
+use Rattle.nets.specs.Block.{ports_ok}
 use Rattle.blocks.proofs.Folds.{all_none, all_more, all_fails, all_less}
 use Rattle.nets.proofs.fields.ports_ok.Goals as goal
 

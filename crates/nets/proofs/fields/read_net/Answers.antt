@@ -2,7 +2,6 @@
 -- is what is left of the 64 entries.
 -- Assumes nothing.
 use mathlib.Core.Path.{sym, ◌∙◌}
-use Prim.Native.Nat.{◌-◌}
 use borrow.Author.Tests.{not-true, not-false}
 use Rattle.nets.proofs.Rows.{reading_start, reading_step, net_sizes, net_entry, net_read}
 use Rattle.nets.proofs.fields.read_net.Goals as goal

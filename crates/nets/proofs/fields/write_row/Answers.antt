@@ -1,7 +1,7 @@
 -- `nets::fields::write_row` meets its contract. The loop's invariant: the three first numbers stand, and the ports before `j`; the measure is what is left
 -- of the ten ports.
 -- Assumes nothing.
-use Prim.Native.Nat.{◌-◌, ◌*◌}
+use Prim.Native.Nat.{◌*◌}
 use native.Mathlib.Omega.{arith}
 use Rattle.nets.proofs.Rows.{writing_start, writing_step, row_written, rows_kept}
 use Rattle.nets.proofs.fields.write_row.Goals as goal

@@ -1,8 +1,8 @@
 -- `nets::placing::may_place` meets its contract. The loop's invariant: the inputs before `j` are fed; the measure is what is left of the inputs.
 -- Assumes nothing.
 use mathlib.Core.Path.{◌≡◌, sym, ap, ◌∙◌}
-use mathlib.Core.Bool.{Bool, true, not, ◌&&◌, ◌||◌}
-use Prim.Native.Nat.{◌<◌, ◌-◌}
+use mathlib.Core.Bool.{Bool, not, ◌&&◌, ◌||◌}
+use Prim.Native.Nat.{◌<◌}
 use native.Mathlib.Omega.{arith}
 use lib.Dec.{leb}
 use lib.ListN.{get_or}

@@ -1,7 +1,6 @@
 -- `nets::placing::order_of` meets its contract. The loop's invariant: `count` blocks are placed; the measure is what is left of the blocks, and falls
 -- since a sweep that places none ends the loop.
 -- Assumes nothing.
-use Prim.Native.Nat.{◌-◌}
 use native.Mathlib.Omega.{arith}
 use Rattle.nets.proofs.Orders.{progress_start, halts, ends}
 use Rattle.nets.proofs.placing.order_of.Goals as goal

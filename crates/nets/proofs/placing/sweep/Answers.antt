@@ -1,7 +1,6 @@
 -- `nets::placing::sweep` meets its contract. The loop's invariant: the blocks before `b` are passed, if nothing was placed; the measure is what is left
 -- of the blocks.
 -- Assumes nothing.
-use Prim.Native.Nat.{◌-◌}
 use native.Mathlib.Omega.{arith}
 use Rattle.nets.proofs.Orders.{sweeping_start, sweeping_step, sweeping_end}
 use Rattle.nets.proofs.placing.sweep.Goals as goal

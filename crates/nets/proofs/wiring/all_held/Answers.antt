@@ -1,8 +1,6 @@
 -- `nets::wiring::all_held` meets its contract. The loop's invariant: the channels before `c` have a block; the measure is what is left of the channels.
 -- Assumes nothing.
 use mathlib.Core.Path.{sym}
-use mathlib.Core.Bool.{true}
-use Prim.Native.Nat.{◌-◌}
 use native.Mathlib.Omega.{arith}
 use Rattle.blocks.proofs.Folds.{all_none, all_more, all_fails, all_less}
 use Rattle.nets.specs.Ends.{held_at}

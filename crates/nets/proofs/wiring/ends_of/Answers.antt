@@ -1,7 +1,7 @@
 -- `nets::wiring::ends_of` meets its contract. The loop's invariant: the blocks before `i` are entered; the measure is what is left of the blocks.
 -- Assumes nothing.
 use mathlib.Core.Path.{◌≡◌, refl, subst}
-use Prim.Native.Nat.{ℕ, ◌-◌, ◌*◌}
+use Prim.Native.Nat.{ℕ, ◌*◌}
 use native.Mathlib.Omega.{arith}
 use borrow.Author.Tests.{not-true, not-false}
 use Rattle.nets.specs.Ends.{Entries}

@@ -2,7 +2,7 @@
 -- side's ports.
 -- Assumes nothing.
 use mathlib.Core.Path.{subst}
-use Prim.Native.Nat.{ℕ, ◌-◌, ◌<◌, ◌≤◌}
+use Prim.Native.Nat.{ℕ, ◌<◌, ◌≤◌}
 use native.Mathlib.Omega.{arith}
 use Rattle.nets.specs.Rows.{row_port}
 use Rattle.nets.specs.Ends.{last_on}

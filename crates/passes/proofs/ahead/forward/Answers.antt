@@ -1,7 +1,7 @@
 -- `passes::ahead::forward` meets its contract: along the order; the loop's invariant is that the blocks that rest and the first i of the order have their equation.
 -- Assumes nothing.
 use mathlib.Core.Path.{◌≡◌}
-use Prim.Native.Nat.{ℕ, ◌-◌, ◌<◌}
+use Prim.Native.Nat.{ℕ, ◌<◌}
 use native.Mathlib.Omega.{arith}
 use lib.ListN.{get_or}
 use Rattle.ports.specs.Places.{sig_at}

@@ -1,7 +1,7 @@
 -- `passes::registers::next_kind` meets its contract: one of the kind after the other; the loop's invariant is that the first i of the kind have their next registers, and the other blocks have theirs still.
 -- Assumes nothing.
 use mathlib.Core.Path.{◌≡◌}
-use Prim.Native.Nat.{ℕ, ◌-◌, ◌≤◌, ◌<◌}
+use Prim.Native.Nat.{ℕ, ◌≤◌, ◌<◌}
 use native.Mathlib.Omega.{arith}
 use mathlib.Core.Bool.{true}
 use lib.ListN.{get_or}

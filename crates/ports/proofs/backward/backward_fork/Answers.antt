@@ -1,7 +1,7 @@
 -- `ports::backward::backward_fork` meets its contract: copy after copy is asked; the loop's invariant is that go says that the input is valid and none of the first i hinders.
 -- Assumes nothing.
 use mathlib.Core.Path.{◌≡◌, refl, ap, ◌∙◌}
-use Prim.Native.Nat.{ℕ, ◌-◌}
+use Prim.Native.Nat.{ℕ}
 use mathlib.Core.Bool.{Bool, false}
 use lib.ListN.{get_or}
 use native.Mathlib.Omega.{arith}

@@ -1,7 +1,7 @@
 -- `ports::forward::forward_demux` meets its contract: output after output is put; the loop's invariant is that the first i are.
 -- Assumes nothing.
 use mathlib.Core.Path.{◌≡◌, refl, sym, ap, ap₂, ◌∙◌}
-use Prim.Native.Nat.{ℕ, ◌-◌}
+use Prim.Native.Nat.{ℕ}
 use mathlib.Core.Option.{Option}
 use native.Mathlib.Omega.{arith}
 use Rattle.ports.proofs.ByKind.{put_port_more}

@@ -1,7 +1,7 @@
 -- `ports::forward::forward_fork` meets its contract: copy after copy is put; the loop's invariant is that with the two before it the first i are, and that rest is the marks from bit i on.
 -- Assumes nothing.
 use mathlib.Core.Path.{◌≡◌, refl, ap, ◌∙◌}
-use Prim.Native.Nat.{◌-◌, ◌/◌, ◌^◌, ◌≤◌}
+use Prim.Native.Nat.{◌/◌, ◌^◌, ◌≤◌}
 use native.Mathlib.Omega.{arith}
 use Rattle.ports.proofs.Copies.{CopiesPut, copy_more}
 use Rattle.ports.proofs.Puts.{put_as, put_none}

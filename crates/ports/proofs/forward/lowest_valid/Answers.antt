@@ -3,7 +3,7 @@
 use native.Mathlib.Numerals.{add-one}
 use borrow.Author.Count.{below_none, below_more}
 use mathlib.Core.Path.{◌≡◌, sym, ap, ◌∙◌}
-use Prim.Native.Nat.{ℕ, ◌-◌}
+use Prim.Native.Nat.{ℕ}
 use native.Mathlib.Omega.{arith}
 use Rattle.ports.specs.Places.{sig_at, port_at}
 use Rattle.ports.specs.Worked.{ins_show}

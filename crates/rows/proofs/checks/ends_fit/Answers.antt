@@ -1,7 +1,7 @@
 -- `rows::checks::ends_fit` meets its contract: end after end; the loop's invariant is that what is left of the ends has to ascend from low.
 -- Assumes nothing.
 use mathlib.Core.Path.{◌≡◌, refl, sym, ap, ◌∙◌, subst}
-use Prim.Native.Nat.{ℕ, ◌+◌, ◌-◌, ◌≤◌, ◌<◌}
+use Prim.Native.Nat.{ℕ, ◌+◌, ◌≤◌, ◌<◌}
 use native.Mathlib.Omega.{arith}
 use mathlib.Core.Bool.{and-false}
 use lib.Dec.{eqb}

@@ -1,11 +1,10 @@
 -- `rows::checks::shape_ok` meets its contract: entry after entry; the loop's invariant is that those before b are in shape.
 -- Assumes nothing.
-use mathlib.Core.Bool.{and-false, true, false}
+use mathlib.Core.Bool.{and-false, false}
 use mathlib.Core.Path.{◌≡◌, sym, ◌∙◌}
-use Prim.Native.Nat.{◌-◌}
 use native.Mathlib.Omega.{arith}
 use lib.Dec.{leb}
-use borrow.Author.Tests.{not-true, not-false, le-leb, lt-leb}
+use borrow.Author.Tests.{le-leb, lt-leb}
 use Rattle.blocks.specs.Folds.{all_below}
 use Rattle.rows.specs.Checks.{entry_in, shape_no}
 use Rattle.blocks.proofs.Folds.{all_more, all_fails, all_none, all_less}

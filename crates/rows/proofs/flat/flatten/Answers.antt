@@ -1,7 +1,7 @@
 -- `rows::flat::flatten` meets its contract: block after block; the loop's invariant is that the first b rows and values are the net's.
 -- Assumes nothing.
 use mathlib.Core.Path.{◌≡◌, ◌∙◌}
-use Prim.Native.Nat.{ℕ, ◌-◌}
+use Prim.Native.Nat.{ℕ}
 use native.Mathlib.Omega.{arith}
 use mathlib.Core.Logic.{inl}
 use lib.ListN.{get_or, set, length-set}

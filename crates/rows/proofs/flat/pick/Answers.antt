@@ -1,7 +1,7 @@
 -- `rows::flat::pick` meets its contract: place after place; the loop's invariant is that the list has those of the first i places that do not rest.
 -- Assumes nothing.
 use mathlib.Core.Path.{◌≡◌, refl, sym, ap, subst, ◌∙◌}
-use Prim.Native.Nat.{◌+◌, ◌-◌, ◌<◌}
+use Prim.Native.Nat.{◌+◌, ◌<◌}
 use native.Mathlib.Omega.{arith}
 use mathlib.Core.Bool.{Bool, not}
 use lib.ListN.{get_or, set, length-set}

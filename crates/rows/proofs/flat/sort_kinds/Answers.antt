@@ -1,7 +1,7 @@
 -- `rows::flat::sort_kinds` meets its contract: block after block; the loop's invariant is that the lists have the first b blocks by kind.
 -- Assumes nothing.
 use mathlib.Core.Path.{◌≡◌, refl, ◌∙◌}
-use Prim.Native.Nat.{ℕ, ◌+◌, ◌*◌, ◌-◌, ◌≤◌, ◌<◌}
+use Prim.Native.Nat.{ℕ, ◌+◌, ◌*◌, ◌≤◌, ◌<◌}
 use native.Mathlib.Omega.{arith}
 use lib.ListN.{get_or, length-set, replicate}
 use Rattle.passes.specs.Rows.{kind_no, m_no}

@@ -1,7 +1,6 @@
 -- `runs::many::run` meets its contract: no numbers are given as bytes.
 -- Assumes nothing.
 use Rattle.trace.specs.Numbers.{numbers_of}
-use borrow.Author.Rules.{rules}
 use Rattle.runs.proofs.many.run.Goals as goal
 
 pub returns : goal.returns

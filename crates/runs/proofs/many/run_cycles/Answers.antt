@@ -3,12 +3,12 @@
 -- Assumes nothing.
 use Rattle.runs.proofs.GoingLaws.{Going, Turned, state_in, going_begins, going_long, answer-done, trace-done, turned}
 use mathlib.Core.Path.{◌≡◌, refl}
-use mathlib.Core.Bool.{Bool, true}
+use mathlib.Core.Bool.{Bool}
 use mathlib.Core.List.{List}
 use Prim.Native.Nat.{ℕ, ◌+◌, ◌-◌, ◌*◌, ◌≤◌, ◌<◌}
 use native.Mathlib.Omega.{arith}
 use borrow.Rule.Slice.PartMut.{put_mid}
-use lib.ListN.{length, length-map}
+use lib.ListN.{length}
 use Rattle.trace.specs.Numbers.{given}
 use Rattle.passes.specs.Rows.{Rowed, Whole, rests_ahead, rests_back}
 use Rattle.nets.specs.declared.Net.{Net}

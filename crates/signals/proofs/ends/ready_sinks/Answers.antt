@@ -4,7 +4,7 @@ use Rattle.signals.proofs.EndLaws.{sinks_apart, sink-holds, sink-bit}
 use Rattle.rows.proofs.Lists.{among_few, among_block, among_kind, among_number, among_apart}
 use Rattle.ports.proofs.ByKind.{port_first}
 use mathlib.Core.Path.{◌≡◌, sym, ap, ◌∙◌}
-use Prim.Native.Nat.{ℕ, ◌+◌, ◌-◌, ◌<◌}
+use Prim.Native.Nat.{ℕ, ◌+◌, ◌<◌}
 use native.Mathlib.Omega.{arith}
 use lib.ListN.{get_or}
 use borrow.Author.Count.{below_more, below_none}

@@ -5,7 +5,7 @@ use Rattle.rows.proofs.Ascends.{filled_more, filled_none}
 use lib.ListN.{replicate, get_or-replicate, get_or, length-set}
 use mir.Val.{bool_byte}
 use mathlib.Core.Path.{◌≡◌, refl, ap, ◌∙◌}
-use Prim.Native.Nat.{ℕ, ◌-◌}
+use Prim.Native.Nat.{ℕ}
 use native.Mathlib.Omega.{arith}
 use Rattle.ports.specs.Places.{sig_at, ready_at}
 use Rattle.blocks.specs.Folds.{one}

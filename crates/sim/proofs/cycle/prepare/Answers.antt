@@ -1,12 +1,9 @@
 -- `sim::cycle::prepare` meets its contract: the rows are the net's, and so are the tests over them.
 -- Assumes nothing.
 use mathlib.Core.Path.{◌≡◌, sym, ◌∙◌}
-use mathlib.Core.Bool.{false, true}
 use mathlib.Core.List.{List}
 use Prim.Native.Nat.{ℕ}
 use native.Mathlib.Omega.{arith}
-use borrow.Author.Rules.{rules}
-use borrow.Author.Tests.{not-true, not-false}
 use Rattle.cycles.specs.State.{shape_ok}
 use Rattle.cycles.specs.Streams.{ends_fit}
 use Rattle.nets.proofs.Nets.{size-high}

@@ -1,6 +1,5 @@
 -- `sim::cycle::signals_in` meets its contract: the orders, cut down to the blocks that do not rest, lead the passes.
 -- Assumes nothing.
-use borrow.Author.Rules.{rules}
 use Rattle.trace.specs.Numbers.{numbers_of}
 use Rattle.sim.proofs.cycle.signals_in.Goals as goal
 

@@ -1,7 +1,7 @@
 -- `sim::step::fresh_state` meets its contract: block after block; the loop's invariant is that the registers of those before b are done and the others zero.
 -- Assumes nothing.
 use mathlib.Core.Path.{◌≡◌, refl, ap, ◌∙◌}
-use Prim.Native.Nat.{ℕ, ◌-◌}
+use Prim.Native.Nat.{ℕ}
 use native.Mathlib.Omega.{arith}
 use mathlib.Core.Bool.{true}
 use mathlib.Core.List.{[]}

@@ -2,7 +2,7 @@
 -- Assumes nothing.
 use mathlib.Core.Path.{◌≡◌, refl}
 use native.Mathlib.Omega.{arith}
-use lib.ListN.{length, length-map}
+use lib.ListN.{length}
 use Rattle.rows.specs.Ends.{stream_at, mask_at}
 use Rattle.nets.proofs.Nets.{channels-high}
 use Rattle.sim.specs.Laid.{Given}

@@ -7,7 +7,6 @@ use mathlib.Core.Path.{refl, sym, ◌∙◌, ap}
 use mathlib.Core.List.{List, [], ◌∷◌, ◌++◌}
 use lib.ListN.{set, drop, replicate, length-append}
 use borrow.Author.Rules.{rules}
-use borrow.Author.Tests.{not-true, not-false}
 use Rattle.reader.specs.Bits.{bits_of}
 use Rattle.nets.specs.declared.Block.{Block}
 use Rattle.stored.specs.Form.{take_block, padded, zero_block}

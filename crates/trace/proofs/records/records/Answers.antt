@@ -1,7 +1,6 @@
 -- `trace::records::records` meets its contract. The loop's invariant: the records of the channels below c are the first k entries of the list, and head has the
 -- count and channel c.
 -- Assumes nothing.
-use Prim.Native.Nat.{◌-◌}
 use mathlib.Core.Path.{◌≡◌}
 use native.Mathlib.Omega.{arith}
 use borrow.Author.Rules.{rules}

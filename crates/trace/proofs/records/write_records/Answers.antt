@@ -1,6 +1,5 @@
 -- `trace::records::write_records` meets its contract. The loop's invariant: the first j records stand at the beginning of out, and what follows is as it was.
 -- Assumes nothing.
-use Prim.Native.Nat.{◌-◌}
 use mathlib.Core.Path.{◌≡◌, refl, ap, ◌∙◌}
 use native.Mathlib.Omega.{arith}
 use lib.ListN.{length-drop}
