@@ -1,5 +1,7 @@
 // Cases for the programs that the host tests try: files whose numbers have 4 bytes, most significant first. A case begins with how many bytes its form has, how many words and how many ends
 // there are; then come the form, the words, the ends, and what the program makes of the rest.
+#![tactic(auto)]
+
 ghost use Rattle.std.specs.Prelude.{◌≡◌, ◌*◌, ◌≤◌, length};
 ghost use Rattle.cases.specs.Parts.{Lies, Held};
 
@@ -91,10 +93,8 @@ fn numbers_in(bytes: &[u8], n: usize) -> [u32; 256]
     ensures { length result ≡ 256 }
 {
     let mut numbers = [0u32; WORD_ROOM];
-    let mut i: usize = 0;
-    while i < n {
+    for i in 0..n {
         numbers[i] = number_at(bytes, i);
-        i += 1;
     }
     numbers
 }
