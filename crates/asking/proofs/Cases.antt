@@ -8,7 +8,7 @@ use mathlib.Core.List.{List}
 use mathlib.Core.Logic.{inl, inr}
 use mathlib.Core.Option.{Option, none, some}
 use native.Mathlib.Omega.{arith}
-use borrow.Author.Tests.{not_false, eq-eqb, lt-ltb, leb-true}
+use borrow.Author.Tests.{not-false, eq-eqb, lt-ltb, leb-true}
 use lib.Dec.{eqb, leb, ltb}
 use lib.ListN.{length}
 use Rattle.blocks.specs.Folds.{lowest, bit}
@@ -296,5 +296,5 @@ module _ (mask : Bool) (r : Reg) (x : ℕ → Sig) (v y : ℕ → Bool) where
   ends_so (buffer o) true p b e d ask shows = same_ending (buffer o) true p (EmptyBuffer b) e d (o, refl, refl, sym (shows p ask.0) ∙ ask.1)
   ends_so (buffer o) false p b e d ask shows = none-some d
   ends_so control true p b e d ask shows = none-some d
-  ends_so control false p b e d ask shows = same_ending control false p (FullControl b) e d (refl, refl, not_false (full r) ask.2)
+  ends_so control false p b e d ask shows = same_ending control false p (FullControl b) e d (refl, refl, not-false (full r) ask.2)
   ends_so unused q p b e d ask shows = none-some d

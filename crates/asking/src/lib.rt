@@ -1,5 +1,7 @@
 // Questions to a block (change request 9), over rows and signals in arrays: whom a block that is asked for a word or for readiness hands the question on to, and how a chain of waiting
 // channels ends there.
+#![tactic(auto)]
+
 ghost use Rattle.std.specs.Prelude.{◌≡◌, true, false, ℕ, ◌+◌, ◌≤◌, ◌<◌};
 ghost use Rattle.blocks.specs.Folds.{lowest};
 ghost use Rattle.blocks.specs.Ports.{m_ok};

@@ -1,4 +1,6 @@
 // Four bays on one net and one set of streams: the calls `fresh_bays`, `step_bay` and `next`.
+#![tactic(auto)]
+
 ghost use Rattle.std.specs.Prelude.{◌≡◌, ◌<◌};
 ghost use Rattle.blocks.specs.Folds.{bit};
 ghost use Rattle.bays.specs.Calls.{refusal_bay, refused_bay, served_bay, fresh_bays, step_bay, first_wanting, no_bay, turned_to, next_bay};

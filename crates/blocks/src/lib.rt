@@ -1,4 +1,6 @@
 // One block, with no wiring: its kind and ports, what it shows and takes in a cycle, its next registers and their shape.
+#![tactic(auto)]
+
 pub mod cycle;
 pub mod kinds;
 pub mod shape;

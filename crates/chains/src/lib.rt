@@ -1,4 +1,6 @@
 // Chains of waiting channels (change request 9) over rows and signals in arrays: the walk from a channel along those that it waits for.
+#![tactic(auto)]
+
 use asking::Ending;
 
 pub mod walk;

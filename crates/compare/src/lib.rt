@@ -1,4 +1,6 @@
 // Two recordings side by side: a channel's words out of a trace, how two lists of words compare, and the rest that is not matched.
+#![tactic(auto)]
+
 ghost use Rattle.std.specs.Prelude.{◌≡◌};
 ghost use Rattle.compare.specs.Compare.{shared, compared_of, Says, rest_by, IsRest};
 

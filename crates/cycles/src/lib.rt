@@ -1,4 +1,5 @@
 // The state of a net and what a step returns. What a cycle means stands in specs/, its laws in proofs/. No code.
+#![tactic(auto)]
 
 // The registers of a net's blocks; entries from the net's size on are 0.
 #[derive(Clone, Copy)]

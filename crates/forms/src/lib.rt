@@ -1,4 +1,6 @@
 // The stored form of a net: loading and writing it.
+#![tactic(auto)]
+
 ghost use Rattle.forms.specs.Calls.{Loaded, Wrote};
 
 mod put;

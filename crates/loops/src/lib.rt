@@ -1,1 +1,2 @@
 // Walks and loops: definitions and laws alone, in specs/ and proofs/. No code.
+#![tactic(auto)]

@@ -10,7 +10,7 @@ use native.Mathlib.Omega.{arith}
 use lib.Dec.{eqb, leb, ltb}
 use lib.ListN.{length, get_or, set, replicate, get_or-replicate, length-set}
 use lib.Seq.{get_or-set_same, get_or-set_other}
-use borrow.Author.Tests.{eq-eqb, ne_eqb, eqb-true, not_false, lt-ltb, le-ltb, le-leb, lt-leb}
+use borrow.Author.Tests.{eq-eqb, ne_eqb, eqb-true, not-false, lt-ltb, le-ltb, le-leb, lt-leb}
 use Rattle.blocks.specs.Folds.{all_below, count_below}
 use Rattle.blocks.proofs.Folds.{clash, and_both, and_false_1, and_false_2, fails_at, count_none, count_yes, count_no, count_step, count_le}
 use Rattle.nets.specs.Rows.{row_all, row_port, Sound}
@@ -204,7 +204,7 @@ module _ (rows : List ℕ) (side : Bool) where
               x.0,
               x.1,
               vacant_entry x.0 (size * 10) (get_or table x.0 0) (omega arith)
-                  (eqb-true (get_or table x.0 0) 255 (not_false (eqb (get_or table x.0 0) 255) x.2)) (es x.0 (omega (arith, x.1))),
+                  (eqb-true (get_or table x.0 0) 255 (not-false (eqb (get_or table x.0 0) 255) x.2)) (es x.0 (omega (arith, x.1))),
             );
       }
 

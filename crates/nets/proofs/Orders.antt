@@ -11,7 +11,7 @@ use native.Mathlib.Omega.{arith}
 use lib.Dec.{eqb, leb}
 use lib.ListN.{get_or, set, replicate, get_or-replicate, length-replicate, length-set}
 use lib.Seq.{get_or-set_same, get_or-set_other}
-use borrow.Author.Tests.{eq-eqb, ne_eqb, eqb-true, eqb-false, le-leb, not-true, not_false}
+use borrow.Author.Tests.{eq-eqb, ne_eqb, eqb-true, eqb-false, le-leb, not-true, not-false}
 use Rattle.loops.proofs.Cycle.{no_loop, has-loop}
 use Rattle.blocks.specs.Folds.{all_below, count_below}
 use Rattle.blocks.proofs.Folds.{clash, and_1, and_2, all_none, all_more, all_at, all_fails, all_less, fails_at, count_step, count-some, count_all, count-zero, count-drop, or_1, or_2, or_cases}
@@ -379,7 +379,7 @@ module _ (net : Net) (control : Bool) (rows producer : List ℕ) (all : Rows net
         fails_at (fed_at control rows producer s.places x) (row_ins rows x) (rw l.1 at n) in
         let e : (cut_at control rows producer x f.0 ≡ false) × (not (unplaced s.places (feeder rows producer x f.0)) ≡ false) =
         (or_1 (cut_at control rows producer x f.0) (not (unplaced s.places (feeder rows producer x f.0))) f.2, or_2 (cut_at control rows producer x f.0) (not (unplaced s.places (feeder rows producer x f.0))) f.2) in
-        (f.0, f.1, e.0, not_false (unplaced s.places (feeder rows producer x f.0)) e.1)
+        (f.0, f.1, e.0, not-false (unplaced s.places (feeder rows producer x f.0)) e.1)
 
     abbrev Free : ℕ → Type 0
     Free x = is_buffer control (block_at net x).kind ≡ false

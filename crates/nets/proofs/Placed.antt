@@ -8,7 +8,7 @@ use mathlib.Core.Logic.{◌⊎◌, inl, inr}
 use Prim.Native.Nat.{ℕ, zero, suc, ◌+◌, ◌*◌, ◌/◌, ◌%◌, ◌<◌}
 use native.Mathlib.Decide.{ℕ_discrete}
 use native.Mathlib.Omega.{arith}
-use borrow.Author.Tests.{not_false}
+use borrow.Author.Tests.{not-false}
 use lib.ListN.{length, get_or, set, replicate}
 use Rattle.blocks.specs.Folds.{all_below}
 use Rattle.blocks.proofs.Folds.{which, fails_at}
@@ -102,7 +102,7 @@ module _ (net : Net) (ok : fields_ok net ≡ true) (joins : connected net ≡ tr
     place-next count blocks places p rec (inr more) =
         let r : (i : ℕ) × (i < net.size) × (passed_at control (rows_of net) producers places i ≡ false) =
         fails_at (passed_at control (rows_of net) producers places) net.size more in
-        let next : next_at control (rows_of net) producers places r.0 ≡ true = not_false (next_at control (rows_of net) producers places r.0) r.2 in
+        let next : next_at control (rows_of net) producers places r.0 ≡ true = not-false (next_at control (rows_of net) producers places r.0) r.2 in
         rec (set blocks count r.0) (set places r.0 (count + 1))
         (progress_step control (rows_of net) producers net.size count blocks places p (size-high net ok) r.0 r.1 next
         (feeds_of net control (rows_of net) producers (rows_of_lem net) ok table r.0 r.1))

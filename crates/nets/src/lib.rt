@@ -1,4 +1,6 @@
 // A net of blocks and channels: its value, its checks and its loop orders.
+#![tactic(auto)]
+
 mod fields;
 mod placing;
 mod wiring;

@@ -1,4 +1,6 @@
 // A net with buffers placed on its channels, one after another, by the codes of its channels.
+#![tactic(auto)]
+
 ghost use Rattle.std.specs.Prelude.{◌≡◌, cond, ◌&&◌, ◌+◌, ◌≤◌, ◌<◌, eqb, length};
 ghost use Rattle.nets.specs.Block.{ins};
 ghost use Rattle.nets.specs.Verdict.{Joined};

@@ -1,4 +1,6 @@
 // Buffers placed on the channels of a net: one placement, and the list of all that load.
+#![tactic(auto)]
+
 pub mod numbers;
 
 ghost use Rattle.std.specs.Prelude.{◌≡◌, ◌≤◌, length};

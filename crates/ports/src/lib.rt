@@ -1,5 +1,7 @@
 // A block's ports in lent arrays: `rows` names, from `base` on, the place of each port of the block in the arrays of signals, inputs first. The functions work one block out
 // there by the equations of `blocks`; they know nothing of nets.
+#![tactic(auto)]
+
 ghost use Rattle.std.specs.Prelude.{◌≡◌, Bool, false, ◌&&◌, ℕ, ◌+◌, ◌<◌, length, get_or, set};
 ghost use Rattle.ports.specs.Places.{sig_at, ready_at, port_at, Ported, Sized, Put};
 

@@ -1,4 +1,6 @@
 // Bits of a byte slice, most significant first, and a reader over them.
+#![tactic(auto)]
+
 ghost use Rattle.std.specs.Prelude.{◌≡◌, ◌+◌, ◌<◌, ◌≤◌};
 ghost use Rattle.reader.specs.Bits.{bit_at, field_at};
 ghost use Rattle.reader.specs.Steps.{step_of, step_at};

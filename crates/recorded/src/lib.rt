@@ -1,4 +1,6 @@
 // A trace read back: record i of its bytes as one 64-bit number, and the fields of a record.
+#![tactic(auto)]
+
 ghost use Rattle.std.specs.Prelude.{◌≡◌, ◌+◌, ◌*◌, ◌≤◌, length, get_or};
 ghost use Rattle.recorded.specs.Recorded.{records_read, cycle_of, channel_of, word_of};
 

@@ -1,4 +1,6 @@
 // A net laid out for stepping: flat rows, the blocks by kind, the orders without the blocks that rest; and the tests of states and ends over them.
+#![tactic(auto)]
+
 pub mod checks;
 pub mod flat;
 

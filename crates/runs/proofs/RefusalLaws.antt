@@ -5,7 +5,7 @@ use mathlib.Core.Bool.{Bool, true, false, cond, not, ◌&&◌}
 use mathlib.Core.List.{List}
 use Prim.Native.Nat.{ℕ, ◌+◌, ◌/◌, ◌%◌, ◌≤◌, ◌<◌}
 use native.Mathlib.Omega.{arith}
-use borrow.Author.Tests.{not-true, not_false, eq-eqb, ne_eqb, lt-ltb, le-ltb}
+use borrow.Author.Tests.{not-true, not-false, eq-eqb, ne_eqb, lt-ltb, le-ltb}
 use lib.Dec.{eqb}
 use lib.ListN.{length, get_or}
 use Rattle.nets.specs.Net.{fields_ok, connected}
@@ -25,7 +25,7 @@ use Rattle.runs.specs.Runs.{Ran, begun, ran_for, ran_of, run_refusal, answer_of,
 
 -- what a test t says of u, where the code asks whether t fails
 pub holds_when : (t u : Bool) → t ≡ u → not t ≡ false → u ≡ true
-holds_when t u e n = sym e ∙ not_false t n
+holds_when t u e n = sym e ∙ not-false t n
 
 pub fails_when : (t u : Bool) → t ≡ u → not t ≡ true → u ≡ false
 fails_when t u e n = sym e ∙ not-true t n

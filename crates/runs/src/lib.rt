@@ -1,4 +1,6 @@
 // Runs: many cycles in one call, each delivery a record in the trace.
+#![tactic(auto)]
+
 use cycles::State;
 
 pub mod many;

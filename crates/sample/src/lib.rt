@@ -1,4 +1,6 @@
 // A sample run of a stored net, the one that netrun shows: 1, 2, 3 for every source, all masks set, 6 cycles.
+#![tactic(auto)]
+
 ghost use Rattle.std.specs.Prelude.{◌≡◌, ◌≤◌, ◌<◌, length};
 ghost use Rattle.blocks.specs.Folds.{one};
 ghost use Rattle.nets.specs.Net.{is_kind, kind_count};

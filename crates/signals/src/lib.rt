@@ -1,4 +1,6 @@
 // The signals of one cycle, by rows: sources offer, sinks are ready, the passes work out the rest; and what moved.
+#![tactic(auto)]
+
 pub mod ends;
 pub mod wires;
 

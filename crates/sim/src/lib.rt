@@ -1,4 +1,6 @@
 // States and steps of a net: the calls `fresh` and `step`.
+#![tactic(auto)]
+
 use cycles::State;
 use rows::Sorted;
 

@@ -7,7 +7,7 @@ use mathlib.Core.List.{List, [], ◌∷◌, ◌++◌, append_assoc}
 use mathlib.Core.Logic.{◌⊎◌, inl, inr}
 use native.Mathlib.Decide.{ℕ_discrete}
 use native.Mathlib.Omega.{arith}
-use borrow.Author.Tests.{not_false}
+use borrow.Author.Tests.{not-false}
 use lib.ListN.{length, get_or, set, length-set}
 use lib.Seq.{get_or-set_same, get_or-set_other}
 use Rattle.blocks.specs.Folds.{count_below}
@@ -106,7 +106,7 @@ module _ (N : ℕ) (P : Bool → ℕ → Type 0) (low : (q : Bool) (n : ℕ) →
       → Reached met before q n (trail k next met q n)
   unfolding trail
   reached zero met before long room seen q n h =
-      at_circle met before q n (stop (Circle n)) refl (seen n (low q n h) (not_false (get_or met n false) (count-zero (unmet_at met) N (omega arith) n (low q n h))))
+      at_circle met before q n (stop (Circle n)) refl (seen n (low q n h) (not-false (get_or met n false) (count-zero (unmet_at met) N (omega arith) n (low q n h))))
   reached (suc k) met before long room seen q n h =
       by (get_or met n false) refl
       (λ fewer p x l. reached k (set met n true) (n ∷ before) (omega (arith, long, length-set met n true)) fewer (seen_more met before n seen) p x l)

@@ -1,4 +1,6 @@
 // Following a stall to its cause (change request 9): from a channel that does not deliver along those that it waits for, to what keeps them all.
+#![tactic(auto)]
+
 use asking::Ending;
 
 pub mod follow;

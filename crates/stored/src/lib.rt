@@ -1,4 +1,6 @@
 // The stored form of a net, field by field, and reading it.
+#![tactic(auto)]
+
 pub mod read;
 
 use nets::{Block, Net};

@@ -1,4 +1,6 @@
 // The calls for C: a form's check, and a run of a form from its fresh state. Words, ends and masks are bytes, 4 to a number, most significant first.
+#![tactic(auto)]
+
 ghost use Rattle.std.specs.Prelude.{◌≡◌, ◌≤◌, ◌<◌, length};
 ghost use Rattle.runs.specs.Runs.{written};
 ghost use Rattle.whemdrosk.specs.Exports.{Checked, RanForm, packed_of, packed_ran, refusal_over, ran_over};

@@ -1,0 +1,42 @@
+-- `compare::gathering::count_on` meets its contract. The loop's invariant: k is the number of the channel's words among the first i records.
+-- Assumes nothing.
+use Prim.Native.Nat.{◌-◌, ◌<◌}
+use mathlib.Core.Path.{refl, ap, ◌∙◌}
+use mathlib.Core.Logic.{⊎_elim}
+use native.Mathlib.Omega.{arith}
+use borrow.Author.Rules.{rules}
+use lib.ListN.{length}
+use Rattle.recorded.specs.Recorded.{records_read}
+use Rattle.recorded.proofs.Reading.{length_read}
+use Rattle.compare.specs.Gather.{words_on}
+use Rattle.compare.proofs.Words.{first_all, counted-yes, counted_no}
+use Rattle.compare.proofs.gathering.count_on.Goals as goal
+
+pub loop-i-init : goal.loop-i-init
+unfolding words_on
+loop-i-init c = (search rules, search rules, refl)
+
+pub loop-i-preserved : goal.loop-i-preserved
+loop-i-preserved c =
+    let given = c.args in
+    let rs = records_read given.trace.now in
+    let here : c.loop-i.i < length rs = omega (arith, length_read given.trace.now) in
+    ⊎_elim
+    (λ w. (
+      omega arith,
+      omega arith,
+      w.1 ∙ counted-yes given.channel rs c.loop-i.i here c.record_at-r.result c.channel_of.result c.record_at-r.ensures c.channel_of.ensures
+          c.loop-i.k c.loop-i.invariant.2 w.0.taken,
+    ))
+    (λ w. (
+      omega arith,
+      omega arith,
+      w.1 ∙ counted_no given.channel rs c.loop-i.i here c.record_at-r.result c.channel_of.result c.record_at-r.ensures c.channel_of.ensures
+          c.loop-i.k c.loop-i.invariant.2 w.0.left,
+    ))
+    c.if-channel_of-channel.branch
+
+pub returns : goal.returns
+returns c =
+    let given = c.args in
+    c.loop-i.invariant.2 ∙ ap length (first_all given.channel (records_read given.trace.now) c.loop-i.i (omega (arith, length_read given.trace.now)))

@@ -1,0 +1,60 @@
+-- `stalls::follow::chain_from` meets its contract: the walk begins with no channel met, and lists that are empty.
+-- Assumes nothing.
+use Prim.Native.Nat.{◌+◌, ◌≤◌}
+use mathlib.Core.Path.{refl, ap, sym, ◌∙◌}
+use mathlib.Core.Bool.{Bool, true, false}
+use native.Mathlib.Omega.{arith}
+use borrow.Author.Tests.{not-true, not-false}
+use lib.ListN.{get_or}
+use Rattle.chains.specs.Chain.{none_met, Trail, chain_from}
+use Rattle.chains.specs.Rows.{Seen, seen, next_no, unmet, trail_no}
+use Rattle.chains.proofs.Trails.{unmet_all, from-delivers, from-ready, from-word}
+use Rattle.stalls.specs.Calls.{chain_by}
+use Rattle.stalls.proofs.Answers.{answered}
+use Rattle.stalls.proofs.follow.chain_from.Goals as goal
+
+-- the cycle, whether the first channel has V and R there, and the chain
+abbrev cycle : goal.Start → Seen
+cycle c =
+    seen c.args.rows.now c.args.words.now c.args.marks.now c.args.valid.now c.args.word.now c.args.ready.now c.args.from.now c.args.to.now
+
+abbrev has_word : goal.Start → Bool
+has_word c = get_or c.args.valid.now c.args.c false
+
+abbrev is_ready : goal.Start → Bool
+is_ready c = get_or c.args.ready.now c.args.c false
+
+abbrev chain : goal.Start → Trail
+chain c = chain_from (next_no (cycle c)) (has_word c) (is_ready c) c.args.c
+
+all_fit : 0 + unmet none_met ≤ 128
+all_fit = omega (arith, unmet_all)
+
+pub ask_word-walked-requires : goal.ask_word-walked-requires
+ask_word-walked-requires c =
+    record {
+      within = c.requires;
+      met_len = (refl, all_fit);
+    }
+
+pub returns-then-not-valid-at : goal.returns-then-not-valid-at
+returns-then-not-valid-at c =
+    answered c.args.valid.now (chain (goal.at.returns-then-not-valid-at c).Start) (trail_no (cycle (goal.at.returns-then-not-valid-at c).Start) none_met true c.args.c) _ _ c.ask_word-walked.result
+    (from-word (next_no (cycle (goal.at.returns-then-not-valid-at c).Start)) (has_word (goal.at.returns-then-not-valid-at c).Start) (is_ready (goal.at.returns-then-not-valid-at c).Start) c.args.c (not-true (has_word (goal.at.returns-then-not-valid-at c).Start) c.if-not-valid-at.true)) c.ask_word-walked.ensures
+
+pub returns-then-ready-at : goal.returns-then-ready-at
+returns-then-ready-at c =
+    let delivers = from-delivers (next_no (cycle (goal.at.returns-then-ready-at c).Start)) (has_word (goal.at.returns-then-ready-at c).Start) (is_ready (goal.at.returns-then-ready-at c).Start) c.args.c (not-false (has_word (goal.at.returns-then-ready-at c).Start) c.if-not-valid-at.false) c.if-ready-at.true in
+    c.no_chain.ensures ∙ ap (chain_by (λ x. get_or c.args.valid.now x false)) (sym delivers)
+
+pub ask_ready-walked-requires : goal.ask_ready-walked-requires
+ask_ready-walked-requires c =
+    record {
+      within = c.requires;
+      met_len = (refl, all_fit);
+    }
+
+pub returns : goal.returns
+returns c =
+    answered c.args.valid.now (chain (goal.at.returns c).Start) (trail_no (cycle (goal.at.returns c).Start) none_met false c.args.c) _ _ c.ask_ready-walked.result
+    (from-ready (next_no (cycle (goal.at.returns c).Start)) (has_word (goal.at.returns c).Start) (is_ready (goal.at.returns c).Start) c.args.c (not-false (has_word (goal.at.returns c).Start) c.if-not-valid-at.false) c.if-ready-at.false) c.ask_ready-walked.ensures
