@@ -11,7 +11,7 @@
 # make bench           the speed of the library beside plain C
 # make soak            the library beside the model over a million random nets; NETS=3000000 SEED=7 for more and for others
 # make host            the host tests on the library as it is
-# make test            every crate proved from nothing, the must-fail edits and the programs, then the host tests; its last line is 'N passed, 0 failed'
+# make test            rt ci (every crate proved, the must-fail edits, the programs), then the library and the host tests; its last line is 'N passed, 0 failed'
 # make clean           removes what was built and proved
 #
 # The first command that needs a program or the library proves it and what it rests on, in some minutes, and says which crate is done, of how many; then nothing
@@ -22,36 +22,41 @@ LIB = build/libwhemdrosk.a
 SHARED = build/libwhemdrosk.so
 HEADER = build/whemdrosk.h
 TOOL = tools/whemdrosk
-NETRUN = target/bin/netrun
-NETPLACE = target/bin/netplace
-PLACETRY = target/bin/placetry
-BAYTRY = target/bin/baytry
-NETDIFF = target/bin/netdiff
-DIFFTRY = target/bin/difftry
-NETSTALL = target/bin/netstall
-STALLTRY = target/bin/stalltry
-SOURCES := crates.txt $(shell find crates -name '*.rt' -o -name '*.antt')
+# A program lies where rt run and rt ci leave it.
+PROGRAM_NAMES = netrun netplace placetry baytry netdiff difftry netstall stalltry
+program = crates/$(1)/out/$(1)
+NETRUN = $(call program,netrun)
+NETPLACE = $(call program,netplace)
+PLACETRY = $(call program,placetry)
+BAYTRY = $(call program,baytry)
+NETDIFF = $(call program,netdiff)
+DIFFTRY = $(call program,difftry)
+NETSTALL = $(call program,netstall)
+STALLTRY = $(call program,stalltry)
+PROGRAMS = $(foreach name,$(PROGRAM_NAMES),$(call program,$(name)))
+# What is proved; out/ has what rt made.
+SOURCES := crates.txt $(wildcard HANDLES) $(shell find crates -name out -prune -o \( -name '*.rt' -o -name '*.antt' \) -print)
 
 NETS = 1000000
 SEED = 2
-# How many crates or edits rt tries at once: two for each core, as it waits for the last of a batch before it begins the next.
+# How many broken copies are tried at once.
 CORES := $(shell nproc 2> /dev/null || echo 2)
-export RT_JOBS ?= $(shell echo $$((2 * $(CORES))))
 
 .PHONY: help test host lib run placements record diff stall shown bays examples pictures soak bench clean
-# Two runs of rt at once would share target/.
+# Two runs of rt at once would share the crates' out/.
 .NOTPARALLEL:
 
 # The lines at the head of this file.
 help:
 	@sed -n '/^# \?/!q; s/^# \?//p' Makefile
 
-# rt ci removes target/ and proves all. The library that was there is kept until that is done; then the one that the host tests try is built from what was proved. The last line of
-# rt ci is the verdict, and is said again once they pass.
+# rt ci comes first, with no names, on the tree as it stands, and its last line is the verdict, which is said again once all passes; a must-fail edit that is bad counts for nothing there and
+# fails here. Then come the programs as it built them and the library from the crates as it proved them.
 test:
-	mkdir -p build
-	rm -f build/steps.log
-	set -o pipefail; rt ci 2>&1 | tee build/ci.log
+	@mkdir -p build
+	set -o pipefail; began=$$(date +%s); rt ci 2>&1 | tee build/ci.log && echo "$$(($$(date +%s) - began)) rt ci" > build/steps.log
+	@grep -q '^rt: ok' build/ci.log
+	@! grep '^rt: ok.*, [1-9][0-9]* bad' build/ci.log
 	rm -f $(LIB) $(SHARED)
 	tools/timed "the library built" $(MAKE) lib
 	$(MAKE) host
@@ -61,7 +66,7 @@ test:
 # The pages; the library against a model in C, broken stand-ins that the comparison has to catch, the README's program, netrun on the examples; the placements, the
 # bays, the recordings laid beside each other and the stalls that are followed likewise; the header's form writer, reasons and limits, and the editor's example; the planner's tool and its
 # pages; what the library needs of memory.
-host: lib $(NETRUN) $(NETPLACE) $(PLACETRY) $(BAYTRY) $(NETDIFF) $(DIFFTRY) $(NETSTALL) $(STALLTRY)
+host: lib $(PROGRAMS)
 	tools/timed "the pages" $(MAKE) -C tests pages
 	tools/timed "library and model" $(MAKE) -C tests check LIB=../$(LIB)
 	tools/timed "broken stand-ins" $(MAKE) -j$(CORES) -C tests mutants watchdog
@@ -87,9 +92,8 @@ host: lib $(NETRUN) $(NETPLACE) $(PLACETRY) $(BAYTRY) $(NETDIFF) $(DIFFTRY) $(NE
 lib: $(LIB) $(SHARED) $(HEADER)
 
 $(LIB): $(SOURCES)
-	@tools/proved whemdrosk
-	@rt staticlib whemdrosk > build/staticlib.log 2>&1 || { cat build/staticlib.log >&2; exit 1; }
-	@cp target/staticlib/libwhemdrosk.a $@
+	@tools/proved whemdrosk lib
+	@cp crates/whemdrosk/out/libwhemdrosk.a $@
 	@echo "$@: the proved library"
 
 $(HEADER): include/whemdrosk.h
@@ -165,8 +169,8 @@ bays:
 	@$(MAKE) -s $(BAYTRY)
 	@$(BAYTRY)
 
-target/bin/%: $(SOURCES)
-	@tools/proved $*
+$(PROGRAMS): $(SOURCES)
+	@tools/proved $(@F) run
 	@touch $@
 
 soak: $(LIB)
@@ -178,6 +182,6 @@ bench: $(LIB) $(NETPLACE) $(NETDIFF)
 	$(MAKE) -C bench diff NETDIFF=../$(NETDIFF)
 
 clean:
-	rm -rf target build
+	rm -rf crates/*/out build
 	$(MAKE) -C tests clean
 	$(MAKE) -C bench clean

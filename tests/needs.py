@@ -1,6 +1,7 @@
 #!/usr/bin/env python3
 """What the static library needs: bytes of code and of read-only data, and the most stack that each call uses, by the frames of its functions. Held to the page and to a painted stack.
-usage: needs.py LIBRARY [PAINTED]     PAINTED is the program that runs the calls on a painted stack; without it the figures are printed alone, and held to nothing."""
+usage: needs.py LIBRARY [PAINTED]     PAINTED is the program that runs the calls on a painted stack; without it the figures are printed alone, and held to nothing.
+       needs.py --write LIBRARY       writes the figures into the page, the README and the header."""
 import pathlib
 import re
 import subprocess
@@ -114,7 +115,23 @@ def faults(library, painted):
             yield f"{call} used {bytes_met} bytes of a painted stack, and its frames say {most}"
 
 
+def write(library):
+    """The page's rows, the header's macro and the two sentences in KiB, as the library is. What the page says of the figures in words is not written."""
+    rows = figures(library)
+    most = max(rows[f"stack of `{call}`"] for call in CALLS)
+    text = PAGE.read_text()
+    for name, number in rows.items():
+        text = re.sub(rf"^\| {re.escape(name)} \| [\d,]+ \|", f"| {name} | {number:,} |", text, flags=re.M)
+    PAGE.write_text(text)
+    for path in ROUNDED:
+        path.write_text(re.sub(r"less than \d+ KiB of stack", f"less than {most // 1024 + 1} KiB of stack", path.read_text()))
+    HEADER.write_text(re.sub(r"^(#define WHEMDROSK_STACK_BYTES) .*$", rf"\1 {most}", HEADER.read_text(), flags=re.M))
+
+
 def main():
+    if sys.argv[1] == "--write":
+        write(sys.argv[2])
+        return
     library, painted = sys.argv[1], sys.argv[2] if len(sys.argv) > 2 else None
     for sort, parts in sections(library).items():
         print(f"{sort}: {sum(parts.values())}", *(f"{name} {size}" for name, size in parts.items()), sep="\n  ")

@@ -16,7 +16,7 @@ from planner.forms import read_net
 
 NETS = 60
 COMMANDS = 12
-BAYTRY = ROOT / "target" / "bin" / "baytry"
+BAYTRY = ROOT / "crates" / "baytry" / "out" / "baytry"
 LONG = 150000
 ALL = (1 << 32) - 1
 

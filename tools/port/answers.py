@@ -67,9 +67,9 @@ class Function:
             return fields
         first = norm(fields[0])
         if first == "args" and len(fields) > 1:
-            return ["args", self.args.get(norm(fields[1]), fields[1])] + fields[2:]
+            return ["args", self.args.get(norm(fields[1]), fields[1].replace("-", "_"))] + fields[2:]
         if first == "ranges" and len(fields) > 1:
-            return ["ranges", self.args.get(norm(fields[1]), fields[1])] + fields[2:]
+            return ["ranges", self.args.get(norm(fields[1]), fields[1].replace("-", "_"))] + fields[2:]
         if first == "requires":
             pre = self.info["pre"]
             if pre and len(fields) > 1:
@@ -79,7 +79,7 @@ class Function:
                 self.look("part of requires: " + ".".join(fields))
             return fields
         if first in OWN:
-            return fields
+            return [fields[0].replace("-", "_")] + fields[1:]
         for i in self.chain(place):
             old, new = self.info["places"][i][2]
             if norm(old) not in (first, re.sub("-lem$", "", first)) and norm(old).lower() != first.lower():
@@ -307,7 +307,7 @@ def blocks_of(text):
 def decl_name(lines):
     for l in lines:
         if not l.startswith("--"):
-            m = re.match(rf"(?:(?:abbrev|pub|unfoldable) )*({NAME})", l)
+            m = re.match(rf"(?:(?:abbrev|pub|unfoldable|record|data) )*({NAME})", l)
             return m[1]
     return ""
 
@@ -377,15 +377,16 @@ def turn(crate, folder, path, info, raw=None):
             new, names, changed = loops[norm(t[2])]
             c = re.match(rf"{re.escape(name)} (.*?) =(?=\s)(.*)", rest, re.S)
             params = c[1].split()
-            want = [("l." + v) if not ch else ("l.initial." + v) for v, ch in zip(names, changed)] + ["l." + v for v, ch in zip(names, changed) if ch]
+            it = "l" if not re.search(r"(?<![\w.'-])l(?![\w.'-])", c[2]) else "loop"
+            want = [f"{it}.{v}" if not ch else f"{it}.initial.{v}" for v, ch in zip(names, changed)] + [f"{it}.{v}" for v, ch in zip(names, changed) if ch]
             if len(params) != len(want):
                 f.look(f"{name}: {params} for {want}")
-                want += ["l.?"] * len(params)
+                want += [f"{it}.?"] * len(params)
             body = c[2]
             table = dict(zip(params, want))
             body = re.sub(rf"(?<![\w.'-])({NAME})(?![\w'-])", lambda w: table.get(w[1], w[1]), body)
             label = f"{t[1]}-{new}"
-            invariants.append("\n".join(comment + [f"abbrev pub {label} : goal.{label}"] + ([unfolding] if unfolding else []) + [f"{label} l ={body}"]))
+            invariants.append("\n".join(comment + [f"abbrev pub {label} : goal.{label}"] + ([unfolding] if unfolding else []) + [f"{label} {it} ={body}"]))
             continue
         t = re.match(r"tie\.Need-(\S+)", kind)
         if t:
@@ -397,7 +398,7 @@ def turn(crate, folder, path, info, raw=None):
                 answers.append("\n".join(comment + lines))
                 continue
             new, place = f.needs[key]
-            c = re.match(rf"{re.escape(name)}((?: {NAME})*?)( κs)?((?: {NAME})*) =(?=\s)(.*)", rest, re.S)
+            c = re.match(rf"{re.escape(name)}((?: {NAME})*?)( κs)?((?: {NAME})*?) =(?=\s)(.*)", rest, re.S)
             if not c:
                 f.look(f"clauses of {name} not read")
                 answers.append("\n".join(comment + lines))
@@ -493,9 +494,32 @@ def main():
             f, invariants, answers, head, uses = turn(crate, folder, path, info, raw)
             module = f"Rattle.{crate}.proofs.{path}"
             top_comment = "\n".join(head)
+            # what an invariant speaks of stands beside it
+            shared, text = [], "\n\n".join(invariants)
+            grown = bool(invariants)
+            while grown:
+                grown = False
+                for a in list(answers):
+                    name = decl_name(a.split("\n"))
+                    if "goal." not in a and re.search(rf"(?<![\w.'-]){re.escape(name)}(?![\w'-])", text):
+                        answers.remove(a)
+                        lines = a.split("\n")
+                        at = next(i for i, l in enumerate(lines) if not l.startswith("--"))
+                        if not re.match(r"(abbrev )?pub |record|data|module", lines[at]):
+                            lines[at] = lines[at].replace("abbrev ", "abbrev pub ", 1) if lines[at].startswith("abbrev ") else "pub " + lines[at]
+                        elif lines[at].startswith(("record", "data")):
+                            lines[at] = "pub " + lines[at]
+                        if "record " in lines[at]:
+                            lines = [re.sub(rf"^  (?!pub )({NAME} :)", r"  pub \1", l) for l in lines]
+                        shared.insert(0, (name if not lines[at].startswith("pub record") else lines[at].split()[2], "\n".join(lines)))
+                        text = shared[0][1] + "\n\n" + text
+                        grown = True
+            if shared:
+                uses.append(f"use {module}.Invariants.{{{', '.join(n for n, _ in shared)}}}")
+                invariants = [t for _, t in shared] + invariants
             if invariants:
                 text = "\n\n".join(invariants)
-                lines = [top_comment] + used(uses, text) + [f"use {module}.Given as goal", "", text, ""]
+                lines = [top_comment] + used([u for u in uses if f"{module}.Invariants." not in u], text) + [f"use {module}.Given as goal", "", text, ""]
                 with open(os.path.join(folder, "Invariants.antt"), "w", encoding="utf-8") as it:
                     it.write("\n".join(lines))
             if answers:

@@ -7,15 +7,13 @@ use mathlib.Core.Option.{Option, none, some}
 use Prim.Native.Nat.{ℕ, zero, suc, ◌+◌, ◌<◌, ◌≤◌}
 use native.Mathlib.Numerals.{add-one}
 use native.Mathlib.Omega.{arith}
-use lib.ListN.{length, get_or, set, length-set, replicate}
+use lib.ListN.{length, get_or, set, length-set}
 use lib.Seq.{sets}
 use Rattle.blocks.specs.Kinds.{kind_of}
-use Rattle.blocks.specs.Ports.{n_in, n_out}
-use Rattle.blocks.specs.Asking.{Handed}
 use Rattle.blocks.proofs.Asking.{handed_cases}
 use Rattle.blocks.proofs.Numbers.{ins_agree, outs_agree}
 use Rattle.ports.specs.Places.{sig_at, ready_at}
-use Rattle.passes.specs.Rows.{kind_no, m_no, ins_no, outs_no, in_no, out_no, reg_in}
+use Rattle.passes.specs.Rows.{kind_no, m_no, in_no, out_no, reg_in}
 use Rattle.asking.specs.Endings.{ending_of}
 use Rattle.asking.specs.Questions.{goes_to, end_else, asks}
 use Rattle.asking.specs.Rows.{Row}

@@ -53,6 +53,6 @@ rest_by (Differ n) a b = record { list = a; from = n }
 
 -- r is that part: it lies in the list's block of memory, so many words of four bytes further, and has the words from there on
 pub record IsRest (p : Rest) (r : Bor (List ℕ)) : Type 0 where
-  pub block : r.ref_ptr.0 ≡ p.list.ptr.0
-  pub offset : r.ref_ptr.1 ≡ p.list.ptr.1 + p.from * 4
+  pub block : r.ref_ptr.0 ≡ p.list.ref_ptr.0
+  pub offset : r.ref_ptr.1 ≡ p.list.ref_ptr.1 + p.from * 4
   pub words : r.now ≡ drop p.from p.list.now

@@ -164,6 +164,7 @@ module _ (n : View) where
 
     pub run-pushes : (l : List ℕ) (s : Queues) → AllSound n s → (b : ℕ) → b < n.blocks → Memᴰ b l
         → (k : ℕ) → k ≤ s.fired b → Can (n.kind b) (ins_of n s b) k → k < (run n l s).fired b
+    run-pushes [] s h b hb m k q c = elim m [ ]
     run-pushes (a ∷ l) s h b hb (Memᴰ.head e) k q c =
         let f : k < (fire n b s).fired b = fire-pushes b hb s h k q c in
         let r : Later (fire n a s) (run n l (fire n a s)) = run_later l (fire n a s) in

@@ -33,6 +33,7 @@ pub prefix_in : (xs ys : List ℕ) → IsPrefix xs ys → (t : ℕ) → Memᴰ t
 prefix_in xs ys p t i = subst (λ (l : List ℕ). Memᴰ t l) p.1 (more xs i)
   where
     more : (l : List ℕ) → Memᴰ t l → Memᴰ t (l ++ p.0)
+    more [] i = elim i [ ]
     more (x ∷ l) (Memᴰ.head e) = Memᴰ.head e
     more (x ∷ l) (Memᴰ.tail i) = Memᴰ.tail (more l i)
 

@@ -7,10 +7,17 @@ use Rattle.passes.proofs.Arms.{merge-fits}
 use Rattle.asking.specs.Rows.{handed_no}
 use Rattle.asking.specs.declared.Next.{Next}
 use Rattle.asking.proofs.Asks.{stop_here, goes_past}
+use Rattle.asking.proofs.asked.Lts as lts
+use Rattle.asking.proofs.asked.Tie as tie
+use Rattle.asking.proofs.asked.Reads as reads
 use Rattle.asking.proofs.asked.Goals as goal
 
+-- places on the way that several answers speak of
+abbrev Start : Type 0
+Start = lts.Start tie.the-claims reads.Pre reads.Post tie.handed_clauses
+
 -- what the block answers where the chain does not end there
-abbrev elsewhere : goal.Start → Next
+abbrev elsewhere : Start → Next
 elsewhere c =
     handed_no c.args.b (kind_no c.args.rows.now c.args.b) (m_no c.args.rows.now c.args.b) (reg_in c.args.words.now c.args.marks.now c.args.b) c.args.rows.now
     (base_no c.args.b) (sig_at c.args.valid.now c.args.word.now) (ready_at c.args.ready.now)
@@ -18,7 +25,7 @@ elsewhere c =
 pub returns-then-stops : goal.returns-then-stops
 returns-then-stops c =
     let given = c.args in
-    stop_here (m_no given.rows.now given.b) given.b (kind_no given.rows.now given.b) given.question c.requires.sound (elsewhere (goal.at.returns-then-stops c).Start)
+    stop_here (m_no given.rows.now given.b) given.b (kind_no given.rows.now given.b) given.question c.requires.sound (elsewhere c.before.before.before.before.before.before)
     c.stops.result c.stops.ensures c.if-stops.true c.stop.result c.stop.ensures
 
 pub hand_on-requires : goal.hand_on-requires
@@ -34,5 +41,5 @@ hand_on-requires c =
 pub returns : goal.returns
 returns c =
     let given = c.args in
-    goes_past (m_no given.rows.now given.b) given.b (kind_no given.rows.now given.b) given.question c.requires.sound (elsewhere (goal.at.returns c).Start) c.hand_on.result
+    goes_past (m_no given.rows.now given.b) given.b (kind_no given.rows.now given.b) given.question c.requires.sound (elsewhere c.before.before.before.before.before.before.before.before.before) c.hand_on.result
     (c.hand_on.ensures (get_or given.marks.now given.b 0)) c.stops.result c.stops.ensures c.if-stops.false

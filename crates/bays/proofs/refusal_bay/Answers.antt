@@ -8,7 +8,7 @@ pub returns-then-own-eq12 : goal.returns-then-own-eq12
 returns-then-own-eq12 c = sym (number_12 _ _ c.if-own-eq12.true)
 
 pub returns-then-turn-ge4 : goal.returns-then-turn-ge4
-returns-then-turn-ge4 c = let at-net = c.before in sym (number_13 _ _ at-net.if1.false c.if-turn-ge4.true)
+returns-then-turn-ge4 c = sym (number_13 _ _ c.if-own-eq12.false c.if-turn-ge4.true)
 
 pub returns : goal.returns
-returns c = let at-net = c.before in sym (number_own _ _ at-net.if1.false c.if-turn-ge4.false)
+returns c = sym (number_own _ _ c.if-own-eq12.false c.if-turn-ge4.false)

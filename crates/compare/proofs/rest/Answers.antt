@@ -6,7 +6,14 @@ use native.Mathlib.Omega.{arith}
 use lib.ListN.{length}
 use Rattle.compare.proofs.Shared.{within_first}
 use Rattle.compare.proofs.Rests.{first_left, second_left, none_left, is_rest}
+use Rattle.compare.proofs.rest.Lts as lts
+use Rattle.compare.proofs.rest.Tie as tie
+use Rattle.compare.proofs.rest.Reads as reads
 use Rattle.compare.proofs.rest.Goals as goal
+
+-- places on the way that several answers speak of
+abbrev Else-n-b : Type 0
+Else-n-b = lts.Else2 tie.the-claims reads.Pre reads.Post
 
 pub returns-then-n-a : goal.returns-then-n-a
 returns-then-n-a c =
@@ -20,19 +27,19 @@ returns-then-n-b c =
     (second_left given.a given.b c.common-n.result c.common-n.ensures c.if-n-a.false c.if-n-b.true) refl refl refl
 
 -- past both tests no word is left of either list, and no more are shared than the first has
-within : (c : goal.Else-n-b) → c.common-n.result ≤ length c.args.a.now
+within : (c : Else-n-b) → c.common-n.result ≤ length c.args.a.now
 within c =
     let given = c.args in
     omega (arith, within_first given.a.now given.b.now, c.common-n.ensures)
 
 pub offset_bounds-a-n-2 : goal.offset_bounds-a-n-2
-offset_bounds-a-n-2 c = omega (arith, within c)
+offset_bounds-a-n-2 c = omega (arith, within c.before)
 
 pub slice_bounds-result-count-2 : goal.slice_bounds-result-count-2
-slice_bounds-result-count-2 c = omega (arith, within c)
+slice_bounds-result-count-2 c = omega (arith, within c.before)
 
 pub slice_bounds-result-start-2 : goal.slice_bounds-result-start-2
-slice_bounds-result-start-2 c = omega (arith, within c)
+slice_bounds-result-start-2 c = omega (arith, within c.before)
 
 pub returns : goal.returns
 returns c =

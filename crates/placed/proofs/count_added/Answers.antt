@@ -17,7 +17,7 @@ overflow_add-sum c =
     omega (arith, c.requires, c.buffers_of-sum.ensures, adds_small (get_or c.args.codes.now c.loop-i.i 0))
 
 pub overflow_add-i : goal.overflow_add-i
-overflow_add-i c = let begun = c.before.before.before.before.before in omega (arith, begun.requires)
+overflow_add-i c = omega (arith, c.requires)
 
 pub loop-i-smaller : goal.loop-i-smaller
 loop-i-smaller c = omega arith

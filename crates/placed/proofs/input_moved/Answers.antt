@@ -15,12 +15,8 @@ use Rattle.nets.specs.declared.Block.{Block}
 use Rattle.cycles.proofs.States.{tab_is}
 use Rattle.placed.specs.Placed.{port_moved}
 use Rattle.placed.proofs.Moved.{same_block}
+use Rattle.placed.proofs.input_moved.Invariants.{Moving}
 use Rattle.placed.proofs.input_moved.Goals as goal
-
--- the first j of ten ports are those of the block, moved
-record Moving (b : Block) (c d j : ℕ) (ports : List ℕ) : Type 0 where
-  long : length ports ≡ 10
-  moved : (k : ℕ) → k < j → get_or ports k 0 ≡ port_moved c d b k
 
 one_moved : (b : Block) (c d j v : ℕ) (ports : List ℕ) → j < 10 → v ≡ port_moved c d b j → Moving b c d j ports → Moving b c d (j + 1) (set ports j v)
 one_moved b c d j v ports h e m =
@@ -35,7 +31,7 @@ one_moved b c d j v ports h e m =
 pub returns-then-free_of : goal.returns-then-free_of
 returns-then-free_of c =
     let a = c.args in
-    let ten : length a.b.ports ≡ 10 = simp length-map at c.well-formed.0.1.1.1.1.1.0.1.0.1 in
+    let ten : length a.b.ports ≡ 10 = c.well_formed.0.1.1.1.1.1.0.1.0.1 in
     same_block a.c a.d a.b ten (sym c.free_of.ensures ∙ c.if-free_of.true)
 
 pub loop-j-init : goal.loop-j-init

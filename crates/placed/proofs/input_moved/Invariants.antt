@@ -1,8 +1,18 @@
 -- `placed::input_moved` meets its contract: a block that does not name the channel is as it was; of another, port after port, and the loop's invariant is that the first j ports
 -- are moved.
 -- Assumes nothing.
-use Prim.Native.Nat.{◌-◌, ◌≤◌}
+use mathlib.Core.Path.{◌≡◌}
+use Prim.Native.Nat.{ℕ, ◌-◌, ◌≤◌, ◌<◌}
+use mathlib.Core.List.{List}
+use lib.ListN.{get_or, length}
+use Rattle.nets.specs.declared.Block.{Block}
+use Rattle.placed.specs.Placed.{port_moved}
 use Rattle.placed.proofs.input_moved.Given as goal
+
+-- the first j of ten ports are those of the block, moved
+pub record Moving (b : Block) (c d j : ℕ) (ports : List ℕ) : Type 0 where
+  pub long : length ports ≡ 10
+  pub moved : (k : ℕ) → k < j → get_or ports k 0 ≡ port_moved c d b k
 
 abbrev pub invariant-loop-j : goal.invariant-loop-j
 invariant-loop-j l = (l.j ≤ 10) × Moving l.b l.c l.d l.j l.ports

@@ -11,4 +11,4 @@ returns-in-Count c =
 
 pub returns-in-Unused : goal.returns-in-Unused
 unfolding ins
-returns-in-Unused c = let asked = c.before.before in rw (sym asked.ports-of.ensures ∙ c.in-Unused.is) refl
+returns-in-Unused c = rw (sym c.ports_of.ensures ∙ c.in-Unused.is) refl

@@ -19,7 +19,7 @@ loop-i-init c =
     }
 
 pub overflow_cast-i : goal.overflow_cast-i
-overflow_cast-i c = let begun = c.before.before.before in omega (arith, begun.requires.1)
+overflow_cast-i c = omega (arith, c.requires.fitting)
 
 pub bounds-codes-i : goal.bounds-codes-i
 bounds-codes-i c = omega arith
@@ -34,7 +34,7 @@ with_code-out-requires c =
     }
 
 pub overflow_add-i : goal.overflow_add-i
-overflow_add-i c = let begun = c.before.before.before.before.before in omega (arith, begun.requires.1)
+overflow_add-i c = omega (arith, c.requires.fitting)
 
 pub loop-i-smaller : goal.loop-i-smaller
 loop-i-smaller c = omega arith

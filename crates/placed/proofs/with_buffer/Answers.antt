@@ -8,7 +8,7 @@ use mathlib.Core.List.{List}
 use lib.Dec.{eqb, ltb}
 use borrow.Author.Count.{below_more, below_none}
 use borrow.Author.Tests.{eqb-true, eqb-false, ltb-true, ltb-false}
-use lib.ListN.{get_or, length, set, replicate, length-set, get_or-replicate}
+use lib.ListN.{get_or, set, replicate, length-set, get_or-replicate}
 use lib.Seq.{get_or-set_same, get_or-set_other, ext_get_or}
 use Rattle.blocks.proofs.Options.{test}
 use Rattle.nets.specs.Block.{no_block}
@@ -21,13 +21,8 @@ use Rattle.cycles.proofs.States.{length-tab, get_d_tab}
 use Rattle.placed.specs.Placed.{buffer_from, input_moved, entry_of}
 use Rattle.placed.proofs.Moved.{zero_moved}
 use Rattle.placed.proofs.Splitting.{block-beyond}
+use Rattle.placed.proofs.with_buffer.Invariants.{Moving}
 use Rattle.placed.proofs.with_buffer.Goals as goal
-
--- the first i blocks of the net are moved, and the rest are zero
-record Moving (net : Net) (c i : ℕ) (blocks : List Block) : Type 0 where
-  long : length blocks ≡ 64
-  moved : (k : ℕ) → k < i → get_or blocks k no_block ≡ input_moved c net.channels (block_at net k)
-  rest : (k : ℕ) → i ≤ k → k < 64 → get_or blocks k no_block ≡ buffer_from 0 0 0
 
 module _ (net : Net) (c : ℕ) where
   none_moved : (b : Block) → b ≡ buffer_from 0 0 0 → Moving net c 0 (replicate 64 b)

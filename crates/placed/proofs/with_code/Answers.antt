@@ -11,10 +11,10 @@ use Rattle.placed.proofs.Placing.{Room, still_joined}
 use Rattle.placed.proofs.with_code.Goals as goal
 
 pub with_buffer-requires : goal.with_buffer-requires
-with_buffer-requires c = let begun = c.before.before in
+with_buffer-requires c =
     record {
-      joined = begun.requires.0;
-      size_bound = omega (arith, begun.requires.1, ap buffers_of c.if-code-eq1.true);
+      joined = c.requires.joined;
+      size_bound = omega (arith, c.requires.c_lt_channels, ap buffers_of c.if-code-eq1.true);
     }
 
 pub returns-then-code-eq1 : goal.returns-then-code-eq1
@@ -23,10 +23,10 @@ returns-then-code-eq1 c =
     c.with_buffer.ensures ∙ ap (with_code a.net a.c) (sym c.if-code-eq1.true)
 
 pub with_buffer-requires-then-code-eq2 : goal.with_buffer-requires-then-code-eq2
-with_buffer-requires-then-code-eq2 c = let begun = c.before.before.before in
+with_buffer-requires-then-code-eq2 c =
     record {
-      joined = begun.requires.0;
-      size_bound = omega (arith, begun.requires.1, ap buffers_of c.if-code-eq2.true);
+      joined = c.requires.joined;
+      size_bound = omega (arith, c.requires.c_lt_channels, ap buffers_of c.if-code-eq2.true);
     }
 
 pub returns-then-code-eq2 : goal.returns-then-code-eq2

@@ -5,7 +5,7 @@ use Rattle.sample.proofs.Giving.{form-refused, form_ran}
 use Rattle.sample.proofs.run_form.Goals as goal
 
 pub returns-then-loading-ne0 : goal.returns-then-loading-ne0
-returns-then-loading-ne0 c = let loaded = c.before.before in form-refused _ _ loaded.load.result loaded.load.ensures c.if-loading-ne0.true
+returns-then-loading-ne0 c = form-refused _ _ c.load-loading.result c.load-loading.ensures c.if-loading-ne0.true
 
 pub run_net-ran-requires : goal.run_net-ran-requires
 run_net-ran-requires c =

@@ -2,7 +2,6 @@
 -- Assumes nothing.
 use Prim.Native.Nat.{◌-◌, ◌<◌}
 use mathlib.Core.Path.{refl, ap, ◌∙◌}
-use mathlib.Core.Logic.{⊎_elim}
 use native.Mathlib.Omega.{arith}
 use borrow.Author.Rules.{rules}
 use lib.ListN.{length}
@@ -11,6 +10,7 @@ use Rattle.recorded.proofs.Reading.{length_read}
 use Rattle.compare.specs.Gather.{words_on}
 use Rattle.compare.proofs.Words.{first_all, counted-yes, counted_no}
 use Rattle.compare.proofs.gathering.count_on.Goals as goal
+use Rattle.compare.proofs.gathering.count_on.Goals.{then-channel_of-channel, else-channel_of-channel}
 
 pub loop-i-init : goal.loop-i-init
 unfolding words_on
@@ -21,20 +21,20 @@ loop-i-preserved c =
     let given = c.args in
     let rs = records_read given.trace.now in
     let here : c.loop-i.i < length rs = omega (arith, length_read given.trace.now) in
-    ⊎_elim
-    (λ w. (
-      omega arith,
-      omega arith,
-      w.1 ∙ counted-yes given.channel rs c.loop-i.i here c.record_at-r.result c.channel_of.result c.record_at-r.ensures c.channel_of.ensures
-          c.loop-i.k c.loop-i.invariant.2 w.0.taken,
-    ))
-    (λ w. (
-      omega arith,
-      omega arith,
-      w.1 ∙ counted_no given.channel rs c.loop-i.i here c.record_at-r.result c.channel_of.result c.record_at-r.ensures c.channel_of.ensures
-          c.loop-i.k c.loop-i.invariant.2 w.0.left,
-    ))
-    c.if-channel_of-channel.branch
+    elim c.if-channel_of-channel.branch [
+      | then-channel_of-channel w ↦ (
+        omega arith,
+        omega arith,
+        w.k-is ∙ counted-yes given.channel rs c.loop-i.i here c.record_at-r.result c.channel_of.result c.record_at-r.ensures c.channel_of.ensures
+            c.loop-i.k c.loop-i.invariant.2 w.if-channel_of-channel.true,
+      )
+      | else-channel_of-channel w ↦ (
+        omega arith,
+        omega arith,
+        w.k-is ∙ counted_no given.channel rs c.loop-i.i here c.record_at-r.result c.channel_of.result c.record_at-r.ensures c.channel_of.ensures
+            c.loop-i.k c.loop-i.invariant.2 w.if-channel_of-channel.false,
+      )
+    ]
 
 pub returns : goal.returns
 returns c =

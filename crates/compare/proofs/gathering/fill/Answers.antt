@@ -4,7 +4,6 @@
 use Prim.Native.Nat.{ℕ, ◌-◌, ◌<◌}
 use mathlib.Core.Path.{◌≡◌, ap, ◌∙◌}
 use mathlib.Core.List.{List}
-use mathlib.Core.Logic.{⊎_elim}
 use native.Mathlib.Omega.{arith}
 use borrow.Author.Rules.{rules}
 use lib.ListN.{length}
@@ -13,6 +12,7 @@ use Rattle.recorded.proofs.Reading.{length_read}
 use Rattle.compare.specs.Gather.{words_on, put_front}
 use Rattle.compare.proofs.Words.{first, first_all, filled_none, filled-place, filled-yes, filled-no}
 use Rattle.compare.proofs.gathering.fill.Goals as goal
+use Rattle.compare.proofs.gathering.fill.Goals.{then-channel_of-channel, else-channel_of-channel}
 
 pub loop-i-init : goal.loop-i-init
 loop-i-init c = (search rules, filled_none _ _ _)
@@ -32,20 +32,20 @@ loop-i-preserved c =
     let given = c.args in
     let rs = records_read given.trace.now in
     let here : c.loop-i.i < length rs = omega (arith, length_read given.trace.now, c.requires.n_value) in
-    ⊎_elim
-    (λ w. (
-      omega arith,
-      rw (w.2, w.3)
-          (filled-yes given.channel rs c.loop-i.i here c.record_at-r.result c.channel_of.result c.record_at-r.ensures c.channel_of.ensures
-          given.list.now c.loop-i.list c.loop-i.k c.loop-i.invariant.1 c.requires.channel_in_bounds w.0.taken w.1.result w.1.ensures),
-    ))
-    (λ w. (
-      omega arith,
-      rw (w.1, w.2)
-          (filled-no given.channel rs c.loop-i.i here c.record_at-r.result c.channel_of.result c.record_at-r.ensures c.channel_of.ensures
-          given.list.now c.loop-i.list c.loop-i.k c.loop-i.invariant.1 w.0.left),
-    ))
-    c.if-channel_of-channel.branch
+    elim c.if-channel_of-channel.branch [
+      | then-channel_of-channel w ↦ (
+        omega arith,
+        rw (w.list-is, w.k-is)
+            (filled-yes given.channel rs c.loop-i.i here c.record_at-r.result c.channel_of.result c.record_at-r.ensures c.channel_of.ensures
+            given.list.now c.loop-i.list c.loop-i.k c.loop-i.invariant.1 c.requires.channel_in_bounds w.if-channel_of-channel.true w.word_of.result w.word_of.ensures),
+      )
+      | else-channel_of-channel w ↦ (
+        omega arith,
+        rw (w.list-is, w.k-is)
+            (filled-no given.channel rs c.loop-i.i here c.record_at-r.result c.channel_of.result c.record_at-r.ensures c.channel_of.ensures
+            given.list.now c.loop-i.list c.loop-i.k c.loop-i.invariant.1 w.if-channel_of-channel.false),
+      )
+    ]
 
 pub shape_of-list : goal.shape_of-list
 shape_of-list c = c.loop-i.invariant.1.sized

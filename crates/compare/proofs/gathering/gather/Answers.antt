@@ -21,7 +21,7 @@ returns-then-not-has_room c =
     let given = c.args in
     let law =
     earns-23 given.trace.now given.channel given.list.now (omega (arith, c.if-size-ne0.false))
-    (sym c.has_room.ensures ∙ not-true c.has_room.result c.if-not-has_room.true) in
+    (sym c.has_room.ensures ∙ c.if-not-has_room.true) in
     record {
       answer = c.refused-then-not-has_room.ensures ∙ law.0;
       filled = law.1;
@@ -31,7 +31,7 @@ pub fill-count-requires : goal.fill-count-requires
 fill-count-requires c =
     record {
       n_value = omega (arith, c.if-size-ne0.false);
-      channel_in_bounds = leb-true _ _ (sym c.has_room.ensures ∙ not-false c.has_room.result c.if-not-has_room.false);
+      channel_in_bounds = leb-true _ _ (sym c.has_room.ensures ∙ c.if-not-has_room.false);
     }
 
 pub returns : goal.returns
@@ -39,7 +39,7 @@ returns c =
     let given = c.args in
     let law =
     gathers given.trace.now given.channel given.list.now (omega (arith, c.if-size-ne0.false))
-    (sym c.has_room.ensures ∙ not-false c.has_room.result c.if-not-has_room.false) in
+    (sym c.has_room.ensures ∙ c.if-not-has_room.false) in
     record {
       answer = ap (λ (k : ℕ). record { refusal = 0; count = k }) c.fill-count.ensures.count ∙ law.0;
       filled = c.fill-count.ensures.front ∙ law.1;

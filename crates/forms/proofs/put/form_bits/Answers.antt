@@ -9,12 +9,19 @@ use borrow.Author.Rules.{rules}
 use Rattle.nets.specs.Net.{block_at}
 use Rattle.stored.specs.Form.{put_many}
 use Rattle.forms.proofs.Writes.{up_to, bits_most, encode-bits, turn-bits}
+use Rattle.forms.proofs.put.form_bits.Lts as lts
+use Rattle.forms.proofs.put.form_bits.Tie as tie
+use Rattle.forms.proofs.put.form_bits.Reads as reads
 use Rattle.forms.proofs.put.form_bits.Goals as goal
 
+-- places on the way that several answers speak of
+abbrev Start : Type 0
+Start = lts.Start tie.the-claims reads.Pre reads.Post goal.the-invariant-loop-i goal.the-decreases-loop-i
+
 -- a net has 64 blocks: its type says so
-long : (c : goal.Start) → c.args.net.size ≤ length c.args.net.blocks
+long : (c : Start) → c.args.net.size ≤ length c.args.net.blocks
 long c =
-    let all : length c.args.net.blocks ≡ 64 = simp length-map at c.well-formed.0.1.1.1.1.0.1.0.1 in
+    let all : length c.args.net.blocks ≡ 64 = c.well_formed.0.1.1.1.1.0.1.0.1 in
     omega (arith, c.requires)
 
 pub loop-i-init : goal.loop-i-init
@@ -32,7 +39,7 @@ loop-i-preserved c =
     let n = c.args.net in
     let l = c.loop-i in (
       search rules,
-      omega (arith, c.block_bits-bits.ensures, turn-bits n (long (goal.at.loop-i-preserved c).Start) l.i (search rules)),
+      omega (arith, c.block_bits-bits.ensures, turn-bits n (long c.before.before.before.before.before.before) l.i (search rules)),
       omega (arith, c.block_bits-bits.ensures, bits_most (block_at n l.i)),
     )
 

@@ -18,11 +18,11 @@ pub put_field-requires : goal.put_field-requires
 put_field-requires c = (omega (arith, bits-block c.args.b), search rules, search rules)
 
 pub put_field-requires-2 : goal.put_field-requires-2
-put_field-requires-2 c = (omega (arith, bits-block c.args.b, c.put_field.auto.0), search rules, search rules)
+put_field-requires-2 c = (omega (arith, bits-block c.args.b, c.put_field.auto.buf), search rules, search rules)
 
 pub put_valued-requires : goal.put_valued-requires
 put_valued-requires c =
-    (omega (arith, bits-block c.args.b, c.put_field.auto.0, c.put_field-2.auto.0), search rules)
+    (omega (arith, bits-block c.args.b, c.put_field.auto.buf, c.put_field-2.auto.buf), search rules)
 
 pub returns : goal.returns
 returns c =

@@ -14,12 +14,19 @@ use Rattle.nets.specs.Net.{block_at}
 use Rattle.stored.specs.Form.{put_many, put_block, encode}
 use Rattle.forms.specs.Over.{over}
 use Rattle.forms.proofs.Writes.{over_nil, up_to, bits_most, turn-bits, turn-room, turn-over}
+use Rattle.forms.proofs.put.put_blocks.Lts as lts
+use Rattle.forms.proofs.put.put_blocks.Tie as tie
+use Rattle.forms.proofs.put.put_blocks.Reads as reads
 use Rattle.forms.proofs.put.put_blocks.Goals as goal
 
+-- places on the way that several answers speak of
+abbrev Start : Type 0
+Start = lts.Start tie.the-claims reads.Pre reads.Post goal.the-invariant-loop-i goal.the-decreases-loop-i
+
 -- a net has 64 blocks: its type says so
-long : (c : goal.Start) → c.args.net.size ≤ length c.args.net.blocks
+long : (c : Start) → c.args.net.size ≤ length c.args.net.blocks
 long c =
-    let all : length c.args.net.blocks ≡ 64 = simp length-map at c.well-formed.1.0.1.1.1.1.0.1.0.1 in
+    let all : length c.args.net.blocks ≡ 64 = c.well_formed.1.0.1.1.1.1.0.1.0.1 in
     omega (arith, c.requires.0)
 
 pub loop-i-init : goal.loop-i-init
@@ -33,7 +40,7 @@ pub put_block-requires : goal.put_block-requires
 put_block-requires c =
     let l = c.loop-i in
     let p = c.requires in
-    (omega (arith, turn-room c.args.net (long (goal.at.put_block-requires c).Start) l.i (search rules), p.1, l.invariant), omega (arith, p.0, l.invariant))
+    (omega (arith, turn-room c.args.net (long c.before.before.before.before.before.before.before) l.i (search rules), p.1, l.invariant), omega (arith, p.0, l.invariant))
 
 pub overflow_add-at : goal.overflow_add-at
 overflow_add-at c = omega (arith, c.block_bits-at.ensures, bits_most (block_at c.args.net c.loop-i.i), c.requires.0, c.loop-i.invariant)
@@ -47,13 +54,13 @@ loop-i-preserved c =
     let inside : l.i < a.net.size = search rules in
     let room : length (encode a.net) ≤ length (bits_of a.buf.now) = rw length_bits_of c.requires.1 in (
       search rules,
-      omega (arith, c.block_bits-at.ensures, turn-bits a.net (long (goal.at.loop-i-preserved c).Start) l.i inside, l.invariant),
+      omega (arith, c.block_bits-at.ensures, turn-bits a.net (long c.before.before.before.before.before.before.before.before.before.before.before.before) l.i inside, l.invariant),
       omega (arith, c.block_bits-at.ensures, bits_most b, l.invariant),
-      w.auto.0 ∙ l.invariant.3,
+      w.auto.buf ∙ l.invariant.3,
       w.ensures
           ∙ ap (λ (x : List Bool). over x l.at (put_block b [])) l.invariant.4
           ∙ ap (λ (k : ℕ). over (over (bits_of a.buf.now) 32 (up_to a.net.blocks l.i)) k (put_block b [])) l.invariant.1
-          ∙ turn-over a.net (long (goal.at.loop-i-preserved c).Start) l.i inside (bits_of a.buf.now) room,
+          ∙ turn-over a.net (long c.before.before.before.before.before.before.before.before.before.before.before.before) l.i inside (bits_of a.buf.now) room,
     )
 
 pub shape_of-buf : goal.shape_of-buf

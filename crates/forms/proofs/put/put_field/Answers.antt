@@ -26,7 +26,7 @@ loop-k-preserved c =
     let p = c.put_bit in
     let inside : a.at + l.k < length (bits_of a.buf.now) = rw length_bits_of (omega arith) in (
       search rules,
-      p.auto.0 ∙ l.invariant.1,
+      p.auto.buf ∙ l.invariant.1,
       p.ensures
           ∙ ap (λ (b : List Bool). set b (a.at + l.k) (odd (a.value / 2 ^ (a.width - 1 - l.k) % 2))) l.invariant.2
           ∙ put_more (bits_of a.buf.now) a.at a.width a.value l.k inside (search rules),

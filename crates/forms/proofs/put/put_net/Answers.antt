@@ -31,7 +31,7 @@ overflow_mul-bytes c = omega (arith, c.form_bits-bits.ensures, form_most c.args.
 pub put_field-requires : goal.put_field-requires
 put_field-requires c =
     let e = c.form_bits-bits.ensures in (
-      omega (arith, e, c.if-buf-bytes.false, c.put_header.auto.0, c.put_blocks.auto.0),
+      omega (arith, e, c.if-buf-bytes.false, c.put_header.auto.buf, c.put_blocks.auto.buf),
       omega (arith, e, form_most c.args.net c.requires),
       omega (arith, e),
     )

@@ -27,7 +27,7 @@ loop-i-preserved c =
     let p = c.put_field in
     let inside : a.start + 7 * l.i + 7 ≤ length (bits_of a.buf.now) = rw length_bits_of (omega arith) in (
       search rules,
-      p.auto.0 ∙ l.invariant.1,
+      p.auto.buf ∙ l.invariant.1,
       p.ensures
           ∙ ap (λ (b : List Bool). over b (a.start + 7 * l.i) (bits 7 (get_or a.ports l.i 0))) l.invariant.2
           ∙ ports_more (bits_of a.buf.now) a.start a.ports l.i (search rules) inside,

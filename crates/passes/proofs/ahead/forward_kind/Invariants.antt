@@ -12,13 +12,13 @@ use Rattle.passes.proofs.Sites.{ahead-kind}
 use Rattle.passes.proofs.ahead.forward_kind.Given as goal
 
 abbrev pub invariant-loop-i : goal.invariant-loop-i
-invariant-loop-i l =
-    (l.i ≤ l.count) × Sized l.valid l.word
-    × ((w : Rowed l.rows l.n) (l : Listed l.rows l.n l.kind l.count (in_kind l.lists l.kind)) (rest : rests_ahead l.kind ≡ true) (xs : ℕ → List ℕ) (mask : ℕ → Bool) (done : ℕ → Bool)
+invariant-loop-i loop =
+    (loop.i ≤ loop.count) × Sized loop.valid loop.word
+    × ((w : Rowed loop.rows loop.n) (l : Listed loop.rows loop.n loop.kind loop.count (in_kind loop.lists loop.kind)) (rest : rests_ahead loop.kind ≡ true) (xs : ℕ → List ℕ) (mask : ℕ → Bool) (done : ℕ → Bool)
     (resting : (k : ℕ) → done k ≡ true → rests_ahead k ≡ true)
-    → ((b : ℕ) → b < l.n → done (kind_no l.rows b) ≡ true → Holds (ahead l.rows l.values xs mask (reg_in l.words l.marks) b) (sig_at l.initial.valid l.initial.word))
-    → Going (ahead l.rows l.values xs mask (reg_in l.words l.marks)) l.n (λ b. done (kind_no l.rows b) ≡ true) (λ b. is_kind_no l.rows l.kind b ≡ true)
-    (ahead-kind l.rows l.values xs mask (reg_in l.words l.marks) l.n w l.kind l.count (in_kind l.lists l.kind) l done rest resting).turn.place l.i (sig_at l.valid l.word))
+    → ((b : ℕ) → b < loop.n → done (kind_no loop.rows b) ≡ true → Holds (ahead loop.rows loop.values xs mask (reg_in loop.words loop.marks) b) (sig_at loop.initial.valid loop.initial.word))
+    → Going (ahead loop.rows loop.values xs mask (reg_in loop.words loop.marks)) loop.n (λ b. done (kind_no loop.rows b) ≡ true) (λ b. is_kind_no loop.rows loop.kind b ≡ true)
+    (ahead-kind loop.rows loop.values xs mask (reg_in loop.words loop.marks) loop.n w loop.kind loop.count (in_kind loop.lists loop.kind) l done rest resting).turn.place loop.i (sig_at loop.valid loop.word))
 
 abbrev pub decreases-loop-i : goal.decreases-loop-i
 decreases-loop-i l = l.count - l.i

@@ -10,12 +10,19 @@ use Rattle.passes.proofs.Passes.{pass_none, pass_more, pass_all}
 use Rattle.passes.proofs.Sites.{back-pass}
 use Rattle.passes.proofs.Arms.{turns_back}
 use Rattle.blocks.proofs.Folds.{which}
+use Rattle.passes.proofs.back.backward.Lts as lts
+use Rattle.passes.proofs.back.backward.Tie as tie
+use Rattle.passes.proofs.back.backward.Reads as reads
 use Rattle.passes.proofs.back.backward.Goals as goal
 
-inside : (c : goal.In-loop-i) → get_or c.args.order.now (c.args.count - 1 - c.loop-i.i) 0 < c.args.n
+-- places on the way that several answers speak of
+abbrev In-loop-i : Type 0
+In-loop-i = lts.In-loop tie.the-claims reads.Pre reads.Post goal.the-invariant-loop-i goal.the-decreases-loop-i tie.handed_clauses
+
+inside : (c : In-loop-i) → get_or c.args.order.now (c.args.count - 1 - c.loop-i.i) 0 < c.args.n
 inside c = (c.requires.along.listed (c.args.count - 1 - c.loop-i.i) (omega arith)).0
 
-small : (c : goal.In-loop-i) → get_or c.args.order.now (c.args.count - 1 - c.loop-i.i) 0 < 64
+small : (c : In-loop-i) → get_or c.args.order.now (c.args.count - 1 - c.loop-i.i) 0 < 64
 small c = omega (arith, inside c, c.requires.rowed.few)
 
 pub loop-i-init : goal.loop-i-init
@@ -33,36 +40,36 @@ pub bounds-order-count : goal.bounds-order-count
 bounds-order-count c = omega (arith, c.requires.count_bound)
 
 pub overflow_cast-b : goal.overflow_cast-b
-overflow_cast-b c = omega (arith, small (goal.at.overflow_cast-b c).In-loop-i)
+overflow_cast-b c = omega (arith, small c.before.before.before)
 
 pub overflow_mul-row : goal.overflow_mul-row
-overflow_mul-row c = omega (arith, small (goal.at.overflow_mul-row c).In-loop-i)
+overflow_mul-row c = omega (arith, small c.before.before.before)
 
 pub offset_bounds-words-b : goal.offset_bounds-words-b
-offset_bounds-words-b c = omega (arith, small (goal.at.offset_bounds-words-b c).In-loop-i)
+offset_bounds-words-b c = omega (arith, small c.before.before.before)
 
 pub bounds-words-b : goal.bounds-words-b
-bounds-words-b c = omega (arith, small (goal.at.bounds-words-b c).In-loop-i)
+bounds-words-b c = omega (arith, small c.before.before.before.before)
 
 pub bounds-marks-b : goal.bounds-marks-b
-bounds-marks-b c = omega (arith, small (goal.at.bounds-marks-b c).In-loop-i)
+bounds-marks-b c = omega (arith, small c.before.before.before.before.before.before)
 
 pub overflow_add-row : goal.overflow_add-row
-overflow_add-row c = omega (arith, small (goal.at.overflow_add-row c).In-loop-i)
+overflow_add-row c = omega (arith, small c.before.before.before.before.before.before.before)
 
 pub bounds-rows-row : goal.bounds-rows-row
-bounds-rows-row c = omega (arith, small (goal.at.bounds-rows-row c).In-loop-i)
+bounds-rows-row c = omega (arith, small c.before.before.before.before.before.before.before.before)
 
 pub overflow_add-row-in-loop-i : goal.overflow_add-row-in-loop-i
-overflow_add-row-in-loop-i c = omega (arith, small (goal.at.overflow_add-row-in-loop-i c).In-loop-i)
+overflow_add-row-in-loop-i c = omega (arith, small c.before.before.before.before.before.before.before.before.before)
 
 pub bounds-rows-row-in-loop-i : goal.bounds-rows-row-in-loop-i
-bounds-rows-row-in-loop-i c = omega (arith, small (goal.at.bounds-rows-row-in-loop-i c).In-loop-i)
+bounds-rows-row-in-loop-i c = omega (arith, small c.before.before.before.before.before.before.before.before.before)
 
 pub backward_one-requires : goal.backward_one-requires
 backward_one-requires c =
     let w = c.requires.rowed in
-    let low = inside (goal.at.backward_one-requires c).In-loop-i in
+    let low = inside c.before.before.before.before.before.before.before.before.before.before.before in
     record {
       ported = w.ported _ low;
       ready_len = c.loop-i.invariant.1;

@@ -19,25 +19,32 @@ use Rattle.passes.specs.Passed.{Settled}
 use Rattle.passes.proofs.Passes.{pass_none, pass_more, pass_all}
 use Rattle.passes.proofs.Sites.{back-kind}
 use Rattle.passes.proofs.Arms.{back_same}
+use Rattle.passes.proofs.back.backward_kind.Lts as lts
+use Rattle.passes.proofs.back.backward_kind.Tie as tie
+use Rattle.passes.proofs.back.backward_kind.Reads as reads
 use Rattle.passes.proofs.back.backward_kind.Goals as goal
 
-abbrev kind : (c : goal.In-loop-i) → ℕ
+-- places on the way that several answers speak of
+abbrev In-loop-i : Type 0
+In-loop-i = lts.In-loop tie.the-claims reads.Pre reads.Post goal.the-invariant-loop-i goal.the-decreases-loop-i tie.handed_clauses
+
+abbrev kind : (c : In-loop-i) → ℕ
 kind c = c.args.kind
 
-list : (c : goal.In-loop-i) → Listed c.args.rows.now c.args.n (kind c) (get_or c.args.counts.now (kind c) 0) (in_kind c.args.lists.now (kind c))
+list : (c : In-loop-i) → Listed c.args.rows.now c.args.n (kind c) (get_or c.args.counts.now (kind c) 0) (in_kind c.args.lists.now (kind c))
 list c = c.requires.kinds (kind c) c.requires.kind_bound.0
 
-few : (c : goal.In-loop-i) → get_or c.args.counts.now (kind c) 0 ≤ 64
+few : (c : In-loop-i) → get_or c.args.counts.now (kind c) 0 ≤ 64
 few c = listed-few c.args.rows.now c.args.n (kind c) _ _ c.requires.rowed (list c)
 
-inside : (c : goal.In-loop-i) → in_kind c.args.lists.now (kind c) c.loop-i.i < c.args.n
+inside : (c : In-loop-i) → in_kind c.args.lists.now (kind c) c.loop-i.i < c.args.n
 inside c = ((list c).each c.loop-i.i (omega arith)).0
 
-small : (c : goal.In-loop-i) → in_kind c.args.lists.now (kind c) c.loop-i.i < 64
+small : (c : In-loop-i) → in_kind c.args.lists.now (kind c) c.loop-i.i < 64
 small c = omega (arith, inside c, c.requires.rowed.few)
 
 -- a block of the list has the kind
-same : (c : goal.In-loop-i) → kind_no c.args.rows.now (in_kind c.args.lists.now (kind c) c.loop-i.i) ≡ kind c
+same : (c : In-loop-i) → kind_no c.args.rows.now (in_kind c.args.lists.now (kind c) c.loop-i.i) ≡ kind c
 same c = eqb-true _ _ ((list c).each c.loop-i.i (omega arith)).1
 
 pub overflow_mul-first : goal.overflow_mul-first
@@ -55,50 +62,50 @@ loop-i-init c =
     (omega arith, c.requires.ready_len, λ w l rest values xs mask done resting src. pass_none _ _ _ _ _ _ (back-kind a.rows.now values xs mask (reg_in a.words.now a.marks.now) a.n w (sig_at a.valid.now a.word.now) a.kind _ _ l done rest resting) (ready_at a.ready.now) src)
 
 pub overflow_add-b : goal.overflow_add-b
-overflow_add-b c = omega (arith, c.requires.kind_bound.0, few c)
+overflow_add-b c = omega (arith, c.requires.kind_bound.0, few c.before)
 
 pub bounds-lists-first : goal.bounds-lists-first
-bounds-lists-first c = omega (arith, c.requires.kind_bound.0, few (goal.at.bounds-lists-first c).In-loop-i)
+bounds-lists-first c = omega (arith, c.requires.kind_bound.0, few c.before.before)
 
 pub overflow_cast-b : goal.overflow_cast-b
-overflow_cast-b c = omega (arith, small (goal.at.overflow_cast-b c).In-loop-i)
+overflow_cast-b c = omega (arith, small c.before.before.before)
 
 pub overflow_mul-row : goal.overflow_mul-row
-overflow_mul-row c = omega (arith, small (goal.at.overflow_mul-row c).In-loop-i)
+overflow_mul-row c = omega (arith, small c.before.before.before)
 
 pub offset_bounds-words-b : goal.offset_bounds-words-b
-offset_bounds-words-b c = omega (arith, small (goal.at.offset_bounds-words-b c).In-loop-i)
+offset_bounds-words-b c = omega (arith, small c.before.before.before)
 
 pub bounds-words-b : goal.bounds-words-b
-bounds-words-b c = omega (arith, small (goal.at.bounds-words-b c).In-loop-i)
+bounds-words-b c = omega (arith, small c.before.before.before.before)
 
 pub bounds-marks-b : goal.bounds-marks-b
-bounds-marks-b c = omega (arith, small (goal.at.bounds-marks-b c).In-loop-i)
+bounds-marks-b c = omega (arith, small c.before.before.before.before.before.before)
 
 pub overflow_add-row : goal.overflow_add-row
-overflow_add-row c = omega (arith, small (goal.at.overflow_add-row c).In-loop-i)
+overflow_add-row c = omega (arith, small c.before.before.before.before.before.before.before)
 
 pub bounds-rows-row : goal.bounds-rows-row
-bounds-rows-row c = omega (arith, small (goal.at.bounds-rows-row c).In-loop-i)
+bounds-rows-row c = omega (arith, small c.before.before.before.before.before.before.before.before)
 
 pub backward_one-requires : goal.backward_one-requires
 backward_one-requires c =
     let w = c.requires.rowed in
     let a = c.args in
-    let low = inside (goal.at.backward_one-requires c).In-loop-i in
+    let low = inside c.before.before.before.before.before.before.before.before.before.before in
     let at : ℕ = in_kind a.lists.now a.kind c.loop-i.i in
     let m : ℕ = m_no a.rows.now at in
     record {
       ported = w.ported _ low;
       ready_len = c.loop-i.invariant.1;
-      m_value = subst (λ (k : ℕ). m_ok k m ≡ true) (same (goal.at.backward_one-requires c).In-loop-i) (w.sound _ low);
-      reg_value = subst (λ (k : ℕ). in_shape (kind_of k m 0 []) (reg_in a.words.now a.marks.now at) ≡ true) (same (goal.at.backward_one-requires c).In-loop-i) (c.requires.shaped _ low);
-      apart = subst (λ (k : ℕ). Apart (port_at a.rows.now (base_no at)) (inputs_of k m)) (same (goal.at.backward_one-requires c).In-loop-i) (λ i j hi hj e. (w.ins_apart _ _ i j low low hi hj e).1);
-      settled = subst (λ (k : ℕ). Settled k m (reg_in a.words.now a.marks.now at) a.rows.now (base_no at) a.valid.now a.word.now) (same (goal.at.backward_one-requires c).In-loop-i) (c.requires.all_settled _ low);
+      m_value = subst (λ (k : ℕ). m_ok k m ≡ true) (same c.before.before.before.before.before.before.before.before.before.before) (w.sound _ low);
+      reg_value = subst (λ (k : ℕ). in_shape (kind_of k m 0 []) (reg_in a.words.now a.marks.now at) ≡ true) (same c.before.before.before.before.before.before.before.before.before.before) (c.requires.shaped _ low);
+      apart = subst (λ (k : ℕ). Apart (port_at a.rows.now (base_no at)) (inputs_of k m)) (same c.before.before.before.before.before.before.before.before.before.before) (λ i j hi hj e. (w.ins_apart _ _ i j low low hi hj e).1);
+      settled = subst (λ (k : ℕ). Settled k m (reg_in a.words.now a.marks.now at) a.rows.now (base_no at) a.valid.now a.word.now) (same c.before.before.before.before.before.before.before.before.before.before) (c.requires.all_settled _ low);
     }
 
 pub overflow_add-i : goal.overflow_add-i
-overflow_add-i c = omega (arith, few (goal.at.overflow_add-i c).In-loop-i)
+overflow_add-i c = omega (arith, few c.before.before.before.before.before.before.before.before.before.before.before)
 
 pub loop-i-smaller : goal.loop-i-smaller
 loop-i-smaller c = omega arith
@@ -113,7 +120,7 @@ loop-i-preserved c =
       λ w k rest values xs mask done resting src.
           pass_more _ _ _ _ _ _ (back-kind a.rows.now values xs mask (reg_in a.words.now a.marks.now) a.n w (sig_at a.valid.now a.word.now) a.kind _ _ k done rest resting) _ _ l.i (omega arith)
           (l.invariant.2 w k rest values xs mask done resting src)
-          (back_same a.kind (kind_no a.rows.now at) (m_no a.rows.now at) (get_or values at 0) (same (goal.at.loop-i-preserved c).In-loop-i) a.rows.now (base_no at) (mask at) (reg_in a.words.now a.marks.now at) (xs at) (sig_at a.valid.now a.word.now) _ _
+          (back_same a.kind (kind_no a.rows.now at) (m_no a.rows.now at) (get_or values at 0) (same c.before.before.before.before.before.before.before.before.before.before.before) a.rows.now (base_no at) (mask at) (reg_in a.words.now a.marks.now at) (xs at) (sig_at a.valid.now a.word.now) _ _
           c.requires.kind_bound.2 (c.backward_one.ensures.by_index (get_or values at 0) (xs at) (mask at))),
     )
 

@@ -13,13 +13,13 @@ use Rattle.passes.proofs.Sites.{back-kind}
 use Rattle.passes.proofs.back.backward_kind.Given as goal
 
 abbrev pub invariant-loop-i : goal.invariant-loop-i
-invariant-loop-i l =
-    (l.i ≤ l.count) × (length l.ready ≡ 128)
-    × ((w : Rowed l.rows l.n) (l : Listed l.rows l.n l.kind l.count (in_kind l.lists l.kind)) (rest : rests_back l.kind ≡ true) (values : List ℕ) (xs : ℕ → List ℕ) (mask : ℕ → Bool)
+invariant-loop-i loop =
+    (loop.i ≤ loop.count) × (length loop.ready ≡ 128)
+    × ((w : Rowed loop.rows loop.n) (l : Listed loop.rows loop.n loop.kind loop.count (in_kind loop.lists loop.kind)) (rest : rests_back loop.kind ≡ true) (values : List ℕ) (xs : ℕ → List ℕ) (mask : ℕ → Bool)
     (done : ℕ → Bool) (resting : (k : ℕ) → done k ≡ true → rests_back k ≡ true)
-    → ((b : ℕ) → b < l.n → done (kind_no l.rows b) ≡ true → Holds (back l.rows values xs mask (reg_in l.words l.marks) (sig_at l.valid l.word) b) (ready_at l.initial.ready))
-    → Going (back l.rows values xs mask (reg_in l.words l.marks) (sig_at l.valid l.word)) l.n (λ b. done (kind_no l.rows b) ≡ true) (λ b. is_kind_no l.rows l.kind b ≡ true)
-    (back-kind l.rows values xs mask (reg_in l.words l.marks) l.n w (sig_at l.valid l.word) l.kind l.count (in_kind l.lists l.kind) l done rest resting).turn.place l.i (ready_at l.ready))
+    → ((b : ℕ) → b < loop.n → done (kind_no loop.rows b) ≡ true → Holds (back loop.rows values xs mask (reg_in loop.words loop.marks) (sig_at loop.valid loop.word) b) (ready_at loop.initial.ready))
+    → Going (back loop.rows values xs mask (reg_in loop.words loop.marks) (sig_at loop.valid loop.word)) loop.n (λ b. done (kind_no loop.rows b) ≡ true) (λ b. is_kind_no loop.rows loop.kind b ≡ true)
+    (back-kind loop.rows values xs mask (reg_in loop.words loop.marks) loop.n w (sig_at loop.valid loop.word) loop.kind loop.count (in_kind loop.lists loop.kind) l done rest resting).turn.place loop.i (ready_at loop.ready))
 
 abbrev pub decreases-loop-i : goal.decreases-loop-i
 decreases-loop-i l = l.count - l.i

@@ -25,29 +25,36 @@ use Rattle.passes.proofs.Arms.{regs_here, regs_there}
 use Rattle.passes.proofs.Listings.{listed_at}
 use Rattle.blocks.proofs.Folds.{clash}
 use borrow.Author.Count.{below_more, below_none}
+use Rattle.passes.proofs.registers.next_kind.Lts as lts
+use Rattle.passes.proofs.registers.next_kind.Tie as tie
+use Rattle.passes.proofs.registers.next_kind.Reads as reads
 use Rattle.passes.proofs.registers.next_kind.Goals as goal
 
-abbrev kind : (c : goal.In-loop-i) → ℕ
+-- places on the way that several answers speak of
+abbrev In-loop-i : Type 0
+In-loop-i = lts.In-loop tie.the-claims reads.Pre reads.Post goal.the-invariant-loop-i goal.the-decreases-loop-i tie.handed_clauses
+
+abbrev kind : (c : In-loop-i) → ℕ
 kind c = c.args.kind
 
-list : (c : goal.In-loop-i) → Listed c.args.rows.now c.args.n (kind c) (get_or c.args.counts.now (kind c) 0) (in_kind c.args.lists.now (kind c))
+list : (c : In-loop-i) → Listed c.args.rows.now c.args.n (kind c) (get_or c.args.counts.now (kind c) 0) (in_kind c.args.lists.now (kind c))
 list c = c.requires.kinds (kind c) c.requires.kind_bound
 
-few : (c : goal.In-loop-i) → get_or c.args.counts.now (kind c) 0 ≤ 64
+few : (c : In-loop-i) → get_or c.args.counts.now (kind c) 0 ≤ 64
 few c = listed-few c.args.rows.now c.args.n (kind c) _ _ c.requires.rowed (list c)
 
-inside : (c : goal.In-loop-i) → in_kind c.args.lists.now (kind c) c.loop-i.i < c.args.n
+inside : (c : In-loop-i) → in_kind c.args.lists.now (kind c) c.loop-i.i < c.args.n
 inside c = ((list c).each c.loop-i.i (omega arith)).0
 
-small : (c : goal.In-loop-i) → in_kind c.args.lists.now (kind c) c.loop-i.i < 64
+small : (c : In-loop-i) → in_kind c.args.lists.now (kind c) c.loop-i.i < 64
 small c = omega (arith, inside c, c.requires.rowed.few)
 
 -- a block of the list has the kind
-same : (c : goal.In-loop-i) → kind_no c.args.rows.now (in_kind c.args.lists.now (kind c) c.loop-i.i) ≡ kind c
+same : (c : In-loop-i) → kind_no c.args.rows.now (in_kind c.args.lists.now (kind c) c.loop-i.i) ≡ kind c
 same c = eqb-true _ _ ((list c).each c.loop-i.i (omega arith)).1
 
 -- the block at turn i stands at no earlier turn
-fresh : (c : goal.In-loop-i) (k : ℕ) → k < c.loop-i.i
+fresh : (c : In-loop-i) (k : ℕ) → k < c.loop-i.i
     → in_kind c.args.lists.now (kind c) k ≡ in_kind c.args.lists.now (kind c) c.loop-i.i → ⊥
 fresh c k lk e =
     let s = (list c).each k (omega arith) in
@@ -68,60 +75,60 @@ pub loop-i-init : goal.loop-i-init
 loop-i-init c = (omega arith, c.requires.words_len.0, c.requires.words_len.1, (λ values xs mask. below_none _), λ b h. refl)
 
 pub overflow_add-b : goal.overflow_add-b
-overflow_add-b c = omega (arith, c.requires.kind_bound, few c)
+overflow_add-b c = omega (arith, c.requires.kind_bound, few c.before)
 
 pub bounds-lists-first : goal.bounds-lists-first
-bounds-lists-first c = omega (arith, c.requires.kind_bound, few (goal.at.bounds-lists-first c).In-loop-i)
+bounds-lists-first c = omega (arith, c.requires.kind_bound, few c.before.before)
 
 pub overflow_cast-b : goal.overflow_cast-b
-overflow_cast-b c = omega (arith, small (goal.at.overflow_cast-b c).In-loop-i)
+overflow_cast-b c = omega (arith, small c.before.before.before)
 
 pub overflow_mul-row : goal.overflow_mul-row
-overflow_mul-row c = omega (arith, small (goal.at.overflow_mul-row c).In-loop-i)
+overflow_mul-row c = omega (arith, small c.before.before.before)
 
 pub offset_bounds-words-b : goal.offset_bounds-words-b
-offset_bounds-words-b c = omega (arith, small (goal.at.offset_bounds-words-b c).In-loop-i)
+offset_bounds-words-b c = omega (arith, small c.before.before.before)
 
 pub bounds-words-b : goal.bounds-words-b
-bounds-words-b c = omega (arith, small (goal.at.bounds-words-b c).In-loop-i)
+bounds-words-b c = omega (arith, small c.before.before.before.before)
 
 pub bounds-marks-b : goal.bounds-marks-b
-bounds-marks-b c = omega (arith, small (goal.at.bounds-marks-b c).In-loop-i)
+bounds-marks-b c = omega (arith, small c.before.before.before.before.before.before)
 
 pub overflow_add-row : goal.overflow_add-row
-overflow_add-row c = omega (arith, small (goal.at.overflow_add-row c).In-loop-i)
+overflow_add-row c = omega (arith, small c.before.before.before.before.before.before.before)
 
 pub bounds-rows-row : goal.bounds-rows-row
-bounds-rows-row c = omega (arith, small (goal.at.bounds-rows-row c).In-loop-i)
+bounds-rows-row c = omega (arith, small c.before.before.before.before.before.before.before.before)
 
 pub next_one-next-requires : goal.next_one-next-requires
 next_one-next-requires c =
     let l = c.loop-i in
     let a = c.args in
     let w = c.requires.rowed in
-    let low = inside (goal.at.next_one-next-requires c).In-loop-i in
+    let low = inside c.before.before.before.before.before.before.before.before.before in
     let at : ℕ = in_kind a.lists.now a.kind l.i in
     let m : ℕ = m_no a.rows.now at in
-    let still : reg_in l.words l.marks at ≡ reg_in a.words.now a.marks.now at = l.invariant.4 at (fresh (goal.at.next_one-next-requires c).In-loop-i) in
-    let s = c.requires.by_index at low ((list (goal.at.next_one-next-requires c).In-loop-i).each l.i (omega arith)).1 in
+    let still : reg_in l.words l.marks at ≡ reg_in a.words.now a.marks.now at = l.invariant.4 at (fresh c.before.before.before.before.before.before.before.before.before) in
+    let s = c.requires.by_index at low ((list c.before.before.before.before.before.before.before.before.before).each l.i (omega arith)).1 in
     record {
       ported = w.ported at low;
-      m_value = subst (λ (k : ℕ). m_ok k m ≡ true) (same (goal.at.next_one-next-requires c).In-loop-i) (w.sound at low);
-      reg_value = subst (λ (r : Reg). in_shape (kind_of a.kind m 0 []) r ≡ true) (sym still) (subst (λ (k : ℕ). in_shape (kind_of k m 0 []) (reg_in a.words.now a.marks.now at) ≡ true) (same (goal.at.next_one-next-requires c).In-loop-i) s.shape);
-      settled = subst (λ (r : Reg). Settled a.kind m r a.rows.now (base_no at) a.valid.now a.word.now) (sym still) (subst (λ (k : ℕ). Settled k m (reg_in a.words.now a.marks.now at) a.rows.now (base_no at) a.valid.now a.word.now) (same (goal.at.next_one-next-requires c).In-loop-i) s.settled);
+      m_value = subst (λ (k : ℕ). m_ok k m ≡ true) (same c.before.before.before.before.before.before.before.before.before) (w.sound at low);
+      reg_value = subst (λ (r : Reg). in_shape (kind_of a.kind m 0 []) r ≡ true) (sym still) (subst (λ (k : ℕ). in_shape (kind_of k m 0 []) (reg_in a.words.now a.marks.now at) ≡ true) (same c.before.before.before.before.before.before.before.before.before) s.shape);
+      settled = subst (λ (r : Reg). Settled a.kind m r a.rows.now (base_no at) a.valid.now a.word.now) (sym still) (subst (λ (k : ℕ). Settled k m (reg_in a.words.now a.marks.now at) a.rows.now (base_no at) a.valid.now a.word.now) (same c.before.before.before.before.before.before.before.before.before) s.settled);
     }
 
 pub offset_bounds-words-b-in-loop-i : goal.offset_bounds-words-b-in-loop-i
-offset_bounds-words-b-in-loop-i c = omega (arith, small (goal.at.offset_bounds-words-b-in-loop-i c).In-loop-i)
+offset_bounds-words-b-in-loop-i c = omega (arith, small c.before.before.before.before.before.before.before.before.before.before)
 
 pub bounds-words-b-in-loop-i : goal.bounds-words-b-in-loop-i
-bounds-words-b-in-loop-i c = omega (arith, small (goal.at.bounds-words-b-in-loop-i c).In-loop-i, c.loop-i.invariant.1)
+bounds-words-b-in-loop-i c = omega (arith, small c.before.before.before.before.before.before.before.before.before.before, c.loop-i.invariant.1)
 
 pub bounds-marks-b-in-loop-i : goal.bounds-marks-b-in-loop-i
-bounds-marks-b-in-loop-i c = omega (arith, small (goal.at.bounds-marks-b-in-loop-i c).In-loop-i, c.loop-i.invariant.2)
+bounds-marks-b-in-loop-i c = omega (arith, small c.before.before.before.before.before.before.before.before.before.before, c.loop-i.invariant.2)
 
 pub overflow_add-i : goal.overflow_add-i
-overflow_add-i c = omega (arith, few (goal.at.overflow_add-i c).In-loop-i)
+overflow_add-i c = omega (arith, few c.before.before.before.before.before.before.before.before.before.before)
 
 pub loop-i-smaller : goal.loop-i-smaller
 loop-i-smaller c = omega arith
@@ -131,7 +138,7 @@ loop-i-preserved c =
     let l = c.loop-i in
     let a = c.args in
     let w = c.requires.rowed in
-    let low = inside (goal.at.loop-i-preserved c).In-loop-i in
+    let low = inside c.before.before.before.before.before.before.before.before.before.before in
     let at : ℕ = in_kind a.lists.now a.kind l.i in
     let m : ℕ = m_no a.rows.now at in
     let next = c.next_one-next.result in (
@@ -141,10 +148,10 @@ loop-i-preserved c =
       λ values xs mask.
           below_more (λ k. reg_in (set l.words at next.word) (set l.marks at next.marks) (in_kind a.lists.now a.kind k)
           ≡ next_no a.rows.now values xs mask (reg_in a.words.now a.marks.now) (sig_at a.valid.now a.word.now) (ready_at a.ready.now) (in_kind a.lists.now a.kind k)) l.i
-          (λ k lk. regs_there l.words l.marks at next (in_kind a.lists.now a.kind k) (λ e. fresh (goal.at.loop-i-preserved c).In-loop-i k lk e) ∙ l.invariant.3 values xs mask k lk)
-          (regs_here l.words l.marks at next l.invariant.1 l.invariant.2 (small (goal.at.loop-i-preserved c).In-loop-i) ∙ c.next_one-next.ensures (get_or values at 0) (xs at)
-          ∙ ap (λ (r : Reg). next_here (kind_of a.kind m (get_or values at 0) (xs at)) r a.rows.now (base_no at) (sig_at a.valid.now a.word.now) (ready_at a.ready.now)) (l.invariant.4 at (fresh (goal.at.loop-i-preserved c).In-loop-i))
-          ∙ ap (λ (k : ℕ). next_here (kind_of k m (get_or values at 0) (xs at)) (reg_in a.words.now a.marks.now at) a.rows.now (base_no at) (sig_at a.valid.now a.word.now) (ready_at a.ready.now)) (sym (same (goal.at.loop-i-preserved c).In-loop-i))
+          (λ k lk. regs_there l.words l.marks at next (in_kind a.lists.now a.kind k) (λ e. fresh c.before.before.before.before.before.before.before.before.before.before k lk e) ∙ l.invariant.3 values xs mask k lk)
+          (regs_here l.words l.marks at next l.invariant.1 l.invariant.2 (small c.before.before.before.before.before.before.before.before.before.before) ∙ c.next_one-next.ensures (get_or values at 0) (xs at)
+          ∙ ap (λ (r : Reg). next_here (kind_of a.kind m (get_or values at 0) (xs at)) r a.rows.now (base_no at) (sig_at a.valid.now a.word.now) (ready_at a.ready.now)) (l.invariant.4 at (fresh c.before.before.before.before.before.before.before.before.before.before))
+          ∙ ap (λ (k : ℕ). next_here (kind_of k m (get_or values at 0) (xs at)) (reg_in a.words.now a.marks.now at) a.rows.now (base_no at) (sig_at a.valid.now a.word.now) (ready_at a.ready.now)) (sym (same c.before.before.before.before.before.before.before.before.before.before))
           ∙ next_here_lem a.rows.now values xs mask (reg_in a.words.now a.marks.now) a.n w at low (sig_at a.valid.now a.word.now) (ready_at a.ready.now)),
       λ b h. regs_there l.words l.marks at next b (λ e. h l.i (omega arith) (sym e)) ∙ l.invariant.4 b (λ k lk. h k (omega arith)),
     )

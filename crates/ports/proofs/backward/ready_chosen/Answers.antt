@@ -21,17 +21,17 @@ input_more rows base first go chosen n i f g h apart l p q =
 pub ready_if_chosen-requires : goal.ready_if_chosen-requires
 ready_if_chosen-requires c = let p = c.requires in
     record {
-      ported = p.0;
-      ready_len = p.1.0;
-      i_bound = omega (arith, p.1.1.0, p.1.1.1.0);
+      ported = p.ported;
+      ready_len = p.ready_len;
+      i_bound = omega (arith, p.le_n, p.n_bound);
     }
 
 pub ready_if_chosen-requires-2 : goal.ready_if_chosen-requires-2
 ready_if_chosen-requires-2 c = let p = c.requires in
     record {
-      ported = p.0;
+      ported = p.ported;
       ready_len = c.ready_if_chosen.ensures.ready_len_2;
-      i_bound = omega (arith, p.1.1.0, p.1.1.1.0);
+      i_bound = omega (arith, p.le_n, p.n_bound);
     }
 
 pub loop-i-init : goal.loop-i-init
@@ -40,9 +40,9 @@ loop-i-init c = (omega (arith, c.requires.le_n), c.ready_if_chosen-2.ensures.rea
 pub ready_if_chosen-requires-in-loop-i : goal.ready_if_chosen-requires-in-loop-i
 ready_if_chosen-requires-in-loop-i c = let p = c.requires in
     record {
-      ported = p.0;
+      ported = p.ported;
       ready_len = c.loop-i.invariant.1;
-      i_bound = omega (arith, p.1.1.1.0);
+      i_bound = omega (arith, p.n_bound);
     }
 
 pub overflow_add-i : goal.overflow_add-i

@@ -26,7 +26,7 @@ returns-then-end-low c =
     let a = c.args in
     let l = c.loop-i in
     let low = subst (λ (x : ℕ). x < l.low) c.number_in-end.ensures c.if-end-low.true in
-    rw (l.invariant.2, ascend-fails l.low a.long (given a.end-bytes.now a.ends.now) l.i (omega (arith, l.invariant.1)) low) (sym (and-false (eqb (length (given a.end-bytes.now a.ends.now)) a.count)))
+    rw (l.invariant.2, ascend-fails l.low a.long (given a.end_bytes.now a.ends.now) l.i (omega (arith, l.invariant.1)) low) (sym (and-false (eqb (length (given a.end_bytes.now a.ends.now)) a.count)))
 
 pub overflow_add-i : goal.overflow_add-i
 overflow_add-i c = omega arith
@@ -39,11 +39,11 @@ loop-i-preserved c =
     let a = c.args in
     let l = c.loop-i in
     let low = subst (λ (x : ℕ). l.low ≤ x) c.number_in-end.ensures c.if-end-low.false in
-    (omega arith, l.invariant.1, l.invariant.2 ∙ ascend_more l.low a.long (given a.end-bytes.now a.ends.now) l.i (omega (arith, l.invariant.1)) low ∙ ap (λ (x : ℕ). ascend x a.long (drop (l.i + 1) (given a.end-bytes.now a.ends.now))) (sym c.number_in-end.ensures))
+    (omega arith, l.invariant.1, l.invariant.2 ∙ ascend_more l.low a.long (given a.end_bytes.now a.ends.now) l.i (omega (arith, l.invariant.1)) low ∙ ap (λ (x : ℕ). ascend x a.long (drop (l.i + 1) (given a.end_bytes.now a.ends.now))) (sym c.number_in-end.ensures))
 
 pub returns : goal.returns
 returns c =
     let a = c.args in
     let l = c.loop-i in
-    let all : l.i ≡ length (given a.end-bytes.now a.ends.now) = omega (arith, l.invariant.1) in
-    simp (eq-eqb _ _ l.invariant.1, l.invariant.2, ascend_end l.low a.long (given a.end-bytes.now a.ends.now) l.i all)
+    let all : l.i ≡ length (given a.end_bytes.now a.ends.now) = omega (arith, l.invariant.1) in
+    simp (eq-eqb _ _ l.invariant.1, l.invariant.2, ascend_end l.low a.long (given a.end_bytes.now a.ends.now) l.i all)

@@ -35,7 +35,7 @@ unfolding shape_no
 returns-then-not-entry_ok c =
     let a = c.args in
     let l = c.loop-b in
-    let no : all_below (entry_in a.rows.now a.n a.state) 64 ≡ false = all_fails (entry_in a.rows.now a.n a.state) 64 l.b (omega arith) (sym c.entry_ok.ensures ∙ not-true _ c.if-not-entry_ok.true) in
+    let no : all_below (entry_in a.rows.now a.n a.state) 64 ≡ false = all_fails (entry_in a.rows.now a.n a.state) 64 l.b (omega arith) (sym c.entry_ok.ensures ∙ c.if-not-entry_ok.true) in
     rw no (sym (and-false (leb a.state.count 1048576)))
 
 pub overflow_add-b : goal.overflow_add-b
@@ -48,7 +48,7 @@ pub loop-b-preserved : goal.loop-b-preserved
 loop-b-preserved c =
     let a = c.args in
     let l = c.loop-b in
-    (omega arith, all_more (entry_in a.rows.now a.n a.state) l.b l.invariant.1 (sym c.entry_ok.ensures ∙ not-false _ c.if-not-entry_ok.false))
+    (omega arith, all_more (entry_in a.rows.now a.n a.state) l.b l.invariant.1 (sym c.entry_ok.ensures ∙ c.if-not-entry_ok.false))
 
 pub returns : goal.returns
 unfolding shape_no

@@ -9,9 +9,16 @@ use Rattle.blocks.specs.Folds.{one}
 use Rattle.blocks.proofs.Bits.{byte_one, one_below}
 use Rattle.rows.specs.Flat.{rests_by}
 use Rattle.rows.proofs.Picks.{wanted, Picking, picking_none, picking_more, picking_all}
+use Rattle.rows.proofs.flat.pick.Lts as lts
+use Rattle.rows.proofs.flat.pick.Tie as tie
+use Rattle.rows.proofs.flat.pick.Reads as reads
 use Rattle.rows.proofs.flat.pick.Goals as goal
 
-small : (c : goal.In-loop-i) → get_or c.args.order.now c.loop-i.i 0 < 64
+-- places on the way that several answers speak of
+abbrev In-loop-i : Type 0
+In-loop-i = lts.In-loop tie.the-claims reads.Pre reads.Post goal.the-invariant-loop-i goal.the-decreases-loop-i tie.handed_clauses
+
+small : (c : In-loop-i) → get_or c.args.order.now c.loop-i.i 0 < 64
 small c = omega (arith, (c.requires.order.listed c.loop-i.i (omega arith)).0, c.requires.rowed.few)
 
 pub loop-i-init : goal.loop-i-init
@@ -24,16 +31,16 @@ pub bounds-blocks-count : goal.bounds-blocks-count
 bounds-blocks-count c = omega (arith, c.requires.rowed.few)
 
 pub overflow_cast-b : goal.overflow_cast-b
-overflow_cast-b c = omega (arith, small (goal.at.overflow_cast-b c).In-loop-i)
+overflow_cast-b c = omega (arith, small c.before.before.before)
 
 pub overflow_mul-b : goal.overflow_mul-b
-overflow_mul-b c = omega (arith, small (goal.at.overflow_mul-b c).In-loop-i)
+overflow_mul-b c = omega (arith, small c.before.before.before)
 
 pub overflow_add-b : goal.overflow_add-b
-overflow_add-b c = omega (arith, small (goal.at.overflow_add-b c).In-loop-i)
+overflow_add-b c = omega (arith, small c.before.before.before)
 
 pub bounds-rows-b : goal.bounds-rows-b
-bounds-rows-b c = omega (arith, small (goal.at.bounds-rows-b c).In-loop-i)
+bounds-rows-b c = omega (arith, small c.before.before.before.before)
 
 pub overflow_add-count : goal.overflow_add-count
 overflow_add-count c =

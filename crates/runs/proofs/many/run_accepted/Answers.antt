@@ -29,10 +29,10 @@ abbrev words : goal.Start → List ℕ
 words c = given c.args.bytes.now c.args.stream.now
 
 abbrev ends : goal.Start → List ℕ
-ends c = given c.args.end-bytes.now c.args.ends.now
+ends c = given c.args.end_bytes.now c.args.ends.now
 
 abbrev masks : goal.Start → List ℕ
-masks c = given c.args.mask-bytes.now c.args.masks.now
+masks c = given c.args.mask_bytes.now c.args.masks.now
 
 abbrev trace : goal.Start → List ℕ
 trace c = c.args.trace.now

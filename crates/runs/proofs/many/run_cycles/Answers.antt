@@ -38,10 +38,10 @@ abbrev words : Start → List ℕ
 words c = given c.args.bytes.now c.args.stream.now
 
 abbrev ends : Start → List ℕ
-ends c = given c.args.end-bytes.now c.args.ends.now
+ends c = given c.args.end_bytes.now c.args.ends.now
 
 abbrev masks : Start → List ℕ
-masks c = given c.args.mask-bytes.now c.args.masks.now
+masks c = given c.args.mask_bytes.now c.args.masks.now
 
 abbrev trace₀ : Start → List ℕ
 trace₀ c = c.args.trace.now
@@ -49,7 +49,7 @@ trace₀ c = c.args.trace.now
 -- the lengths that the arrays of a state have
 state-long : (c : Start) → (length (state c).words ≡ 64) × (length (state c).marks ≡ 64)
 state-long c =
-    let g = c.well-formed.1.1.1.1.1.0 in
+    let g = c.well_formed.1.1.1.1.1.0 in
     let x : length c.args.state.words ≡ 64 = simp length-map at g.1.1.1.0.1.0.1 in
     let y : length c.args.state.marks ≡ 64 = simp length-map at g.1.1.1.1.0.1.0.1 in
     (x, y)

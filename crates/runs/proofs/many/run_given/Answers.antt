@@ -11,7 +11,7 @@ pub returns-then-number-ne0 : goal.returns-then-number-ne0
 returns-then-number-ne0 c =
     let a = c.args in
     let no = refused_when a.net c.plan_of-plan.result c.plan_of-plan.ensures (λ z. c.if-number-ne0.true (c.number.ensures ∙ z)) in
-    let stop = run-refused a.net a.state (given a.bytes.now a.stream.now) (given a.end-bytes.now a.ends.now) (given a.mask-bytes.now a.masks.now) a.trace.now 12 (earns_12 a.net a.state (given a.bytes.now a.stream.now) (given a.end-bytes.now a.ends.now) (given a.mask-bytes.now a.masks.now) a.trace.now no) (λ z. omega (arith, z)) in
+    let stop = run-refused a.net a.state (given a.bytes.now a.stream.now) (given a.end_bytes.now a.ends.now) (given a.mask_bytes.now a.masks.now) a.trace.now 12 (earns_12 a.net a.state (given a.bytes.now a.stream.now) (given a.end_bytes.now a.ends.now) (given a.mask_bytes.now a.masks.now) a.trace.now no) (λ z. omega (arith, z)) in
     record {
       value = c.refused.ensures ∙ stop.0;
       trace_after = stop.1;

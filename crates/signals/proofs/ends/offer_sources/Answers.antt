@@ -79,16 +79,16 @@ loop-k-preserved c =
     let put = c.offer_one.ensures.put in (
       omega arith,
       rest_half l.k a.offer l.rest l.invariant.1,
-      e ∙ end_next (given a.end-bytes.now a.ends.now) l.k,
+      e ∙ end_next (given a.end_bytes.now a.ends.now) l.k,
       c.offer_one.ensures.sized_2,
-      below_more (λ j. sig_at c.offer_one.new.valid c.offer_one.new.word (port_at a.rows.now (base_no (get_or a.sources.now j 0)) 0) ≡ source_out (stream_no (given a.bytes.now a.stream.now) (given a.end-bytes.now a.ends.now) j) (reg_in a.words.now a.marks.now (get_or a.sources.now j 0)) (bit j a.offer)) l.k
+      below_more (λ j. sig_at c.offer_one.new.valid c.offer_one.new.word (port_at a.rows.now (base_no (get_or a.sources.now j 0)) 0) ≡ source_out (stream_no (given a.bytes.now a.stream.now) (given a.end_bytes.now a.ends.now) j) (reg_in a.words.now a.marks.now (get_or a.sources.now j 0)) (bit j a.offer)) l.k
           (λ j lj.
           put.others (port_at a.rows.now (base_no (get_or a.sources.now j 0)) 0)
           (λ o lo e. let z : j ≡ l.k = among_apart a.rows.now 0 a.count _ m j l.k (omega arith) (omega arith)
           (sources_apart a.rows.now m.size m.rowed (get_or a.sources.now j 0) here (among_block a.rows.now 0 a.count _ m j (omega arith)) (among_block a.rows.now 0 a.count _ m l.k (omega arith))
           (among_kind a.rows.now 0 a.count _ m j (omega arith)) (among_kind a.rows.now 0 a.count _ m l.k (omega arith)) (e ∙ sym (port_first a.rows.now (base_no here) 0 o lo))) in omega arith)
           ∙ l.invariant.4 j lj)
-          (put.own 0 (omega arith) ∙ ap (λ (x : ℕ). source_out (slice l.start x (given a.bytes.now a.stream.now)) (reg_in a.words.now a.marks.now here) (eqb (l.rest % 2) 1)) e ∙ ap₂ (λ (x : ℕ) (t : Bool). source_out (slice x (get_or (given a.end-bytes.now a.ends.now) l.k 0) (given a.bytes.now a.stream.now)) (reg_in a.words.now a.marks.now here) t) l.invariant.2
+          (put.own 0 (omega arith) ∙ ap (λ (x : ℕ). source_out (slice l.start x (given a.bytes.now a.stream.now)) (reg_in a.words.now a.marks.now here) (eqb (l.rest % 2) 1)) e ∙ ap₂ (λ (x : ℕ) (t : Bool). source_out (slice x (get_or (given a.end_bytes.now a.ends.now) l.k 0) (given a.bytes.now a.stream.now)) (reg_in a.words.now a.marks.now here) t) l.invariant.2
           (sym (bit-zero l.rest) ∙ ap (bit 0) l.invariant.1 ∙ bit-rest l.k a.offer)),
     )
 
@@ -102,8 +102,8 @@ returns c =
           let at : ℕ = get_or a.sources.now k 0 in
           let e : kind_no a.rows.now at ≡ 0 = among_kind a.rows.now 0 a.count _ m k h in
           let num : number_no a.rows.now 0 at ≡ k = among_number a.rows.now 0 a.count _ m k h in
-          source-holds a.rows.now values (stream_at a.rows.now (given a.bytes.now a.stream.now) (given a.end-bytes.now a.ends.now)) (mask_at a.rows.now a.offer ready) (reg_in a.words.now a.marks.now) at e (sig_at l.valid l.word)
+          source-holds a.rows.now values (stream_at a.rows.now (given a.bytes.now a.stream.now) (given a.end_bytes.now a.ends.now)) (mask_at a.rows.now a.offer ready) (reg_in a.words.now a.marks.now) at e (sig_at l.valid l.word)
           (l.invariant.4 k (omega arith)
-          ∙ ap₂ (λ (x : ℕ) (t : Bool). source_out (stream_no (given a.bytes.now a.stream.now) (given a.end-bytes.now a.ends.now) x) (reg_in a.words.now a.marks.now at) t) (sym num) (sym (source-bit a.rows.now a.offer ready at k e num)));
+          ∙ ap₂ (λ (x : ℕ) (t : Bool). source_out (stream_no (given a.bytes.now a.stream.now) (given a.end_bytes.now a.ends.now) x) (reg_in a.words.now a.marks.now at) t) (sym num) (sym (source-bit a.rows.now a.offer ready at k e num)));
       sized_2 = l.invariant.3;
     }

@@ -71,7 +71,7 @@ returns-then-not-shape_ok c =
     record {
       flat = laid.flatten.ensures;
       kinds = c.sort_kinds-sorted.ensures;
-      tested = tested_13 given.net given.state given.stream.now given.ends.now (state-tested (goal.at.returns-then-not-shape_ok c).After-shape_ok ∙ not-true _ c.if-not-shape_ok.true);
+      tested = tested_13 given.net given.state given.stream.now given.ends.now (state-tested (goal.at.returns-then-not-shape_ok c).After-shape_ok ∙ c.if-not-shape_ok.true);
     }
 
 pub bounds-sorted-0 : goal.bounds-sorted-0
@@ -84,20 +84,20 @@ pub returns-then-not-ends_fit : goal.returns-then-not-ends_fit
 returns-then-not-ends_fit c =
     let laid = laid_before (goal.at.returns-then-not-ends_fit c).After-ends_fit in
     let given = (start laid).args in
-    let shape = state-tested (goal.at.returns-then-not-ends_fit c).After-shape_ok ∙ not-false _ c.if-not-shape_ok.false in
+    let shape = state-tested (goal.at.returns-then-not-ends_fit c).After-shape_ok ∙ c.if-not-shape_ok.false in
     record {
       flat = laid.flatten.ensures;
       kinds = c.sort_kinds-sorted.ensures;
-      tested = tested_14 given.net given.state given.stream.now given.ends.now shape (ends-tested (goal.at.returns-then-not-ends_fit c).After-ends_fit ∙ not-true _ c.if-not-ends_fit.true);
+      tested = tested_14 given.net given.state given.stream.now given.ends.now shape (ends-tested (goal.at.returns-then-not-ends_fit c).After-ends_fit ∙ c.if-not-ends_fit.true);
     }
 
 pub returns : goal.returns
 returns c =
     let laid = laid_before (goal.at.returns c).After-ends_fit in
     let given = (start laid).args in
-    let shape = state-tested (goal.at.returns c).After-shape_ok ∙ not-false _ c.if-not-shape_ok.false in
+    let shape = state-tested (goal.at.returns c).After-shape_ok ∙ c.if-not-shape_ok.false in
     record {
       flat = laid.flatten.ensures;
       kinds = c.sort_kinds-sorted.ensures;
-      tested = tested_0 given.net given.state given.stream.now given.ends.now shape (ends-tested (goal.at.returns c).After-ends_fit ∙ not-false _ c.if-not-ends_fit.false);
+      tested = tested_0 given.net given.state given.stream.now given.ends.now shape (ends-tested (goal.at.returns c).After-ends_fit ∙ c.if-not-ends_fit.false);
     }

@@ -12,7 +12,7 @@ use Rattle.sim.proofs.step.work.Goals as goal
 -- the lengths that the arrays of a state have
 state-long : (c : goal.Start) → (length c.args.state.words ≡ 64) × (length c.args.state.marks ≡ 64)
 state-long c =
-    let g = c.well-formed.1.1.1.1.1.0 in
+    let g = c.well_formed.1.1.1.1.1.0 in
     let x : length c.args.state.words ≡ 64 = simp length-map at g.1.1.1.0.1.0.1 in
     let y : length c.args.state.marks ≡ 64 = simp length-map at g.1.1.1.1.0.1.0.1 in
     (x, y)

@@ -67,7 +67,7 @@ returns-then-not-blank_from c =
     let whole = l.invariant.4.3 ∙ many_end (take_block a.channels) l.invariant.4.0 (a.count - l.i) (drop l.at (bits_of a.form.now)) (omega arith) in
     c.refused_load-then-not-blank_from.ensures
     ∙ blocks_followed a.count a.channels (drop 32 (bits_of a.form.now)) l.invariant.4.0 (drop l.at (bits_of a.form.now)) whole
-    (sym c.blank_from.ensures ∙ not-true _ c.if-not-blank_from.true)
+    (sym c.blank_from.ensures ∙ c.if-not-blank_from.true)
 
 pub returns : goal.returns
 returns c =
@@ -76,4 +76,4 @@ returns c =
     let whole = l.invariant.4.3 ∙ many_end (take_block a.channels) l.invariant.4.0 (a.count - l.i) (drop l.at (bits_of a.form.now)) (omega arith) in
     ap (λ (bs : List Block). loaded_with a.count a.channels bs) l.invariant.4.2
     ∙ blocks-loaded a.count a.channels (drop 32 (bits_of a.form.now)) l.invariant.4.0 (drop l.at (bits_of a.form.now)) whole
-    (sym c.blank_from.ensures ∙ not-false _ c.if-not-blank_from.false)
+    (sym c.blank_from.ensures ∙ c.if-not-blank_from.false)
