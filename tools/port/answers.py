@@ -524,6 +524,9 @@ def main():
                     it.write("\n".join(lines))
             if answers:
                 text = "\n\n".join(answers)
+                # a test of `!x` says now of x itself that it is true or false; the facts of a type are stated of the value itself
+                text = re.sub(r"\(?not-(?:true|false) (?:_|[^\s()]+) (c\.if-not-[^\s()]+\.(?:true|false))\)?", lambda m: m[1] + (")" if m[0].endswith(")") and not m[0].startswith("(") else ""), text)
+                text = text.replace("simp length-map at c.well_formed", "c.well_formed")
                 places = []
                 for old, new in dict.fromkeys(f.used_places):
                     lts = next(p[0] for p in info["places"] if norm(p[0]) == old)

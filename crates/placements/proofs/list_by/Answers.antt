@@ -1,17 +1,24 @@
 -- `placements::list_by` meets its contract: number after number; the loop's invariant is that the numbers below k that load are kept.
 -- Assumes nothing.
 use mathlib.Core.Path.{◌≡◌, sym, ◌∙◌, subst, subst₂}
-use mathlib.Core.Logic.{⊎_elim}
 use mathlib.Core.List.{List}
 use Prim.Native.Nat.{ℕ, ◌+◌, ◌-◌, ◌^◌, ◌<◌}
 use native.Mathlib.Omega.{arith}
 use Rattle.placements.specs.Listing.{loads}
 use Rattle.placements.proofs.Digits.{power_small}
 use Rattle.placements.proofs.Listings.{Kept, keeps_none, keeps-one, keeps_same, list-base, list_wide, list_done}
+use Rattle.placements.proofs.list_by.Lts as lts
+use Rattle.placements.proofs.list_by.Tie as tie
+use Rattle.placements.proofs.list_by.Reads as reads
 use Rattle.placements.proofs.list_by.Goals as goal
+use Rattle.placements.proofs.list_by.Goals.{then-loads_at, else-loads_at}
+
+-- places on the way that several answers speak of
+abbrev In-loop-k : Type 0
+In-loop-k = lts.In-loop tie.the-claims reads.Pre reads.Post goal.the-invariant-loop-k goal.the-decreases-loop-k tie.handed_clauses
 
 -- at most 4,096 numbers
-below : (c : goal.In-loop-k) → c.loop-k.k < 4096
+below : (c : In-loop-k) → c.loop-k.k < 4096
 below c =
     omega (arith, c.power-n.ensures, power_small c.args.net.channels (omega (arith, c.if-net-gt6.false)))
 
@@ -38,19 +45,19 @@ loads_at-requires c =
     }
 
 pub overflow_cast-numbers : goal.overflow_cast-numbers
-overflow_cast-numbers c = omega (arith, below (goal.at.overflow_cast-numbers c).In-loop-k)
+overflow_cast-numbers c = omega (arith, below c.before.before)
 
 pub offset_bounds-numbers-count : goal.offset_bounds-numbers-count
-offset_bounds-numbers-count c = omega (arith, below (goal.at.offset_bounds-numbers-count c).In-loop-k, c.loop-k.invariant.1.few)
+offset_bounds-numbers-count c = omega (arith, below c.before.before, c.loop-k.invariant.1.few)
 
 pub bounds-numbers-count : goal.bounds-numbers-count
-bounds-numbers-count c = omega (arith, below (goal.at.bounds-numbers-count c).In-loop-k, c.loop-k.invariant.1.few)
+bounds-numbers-count c = omega (arith, below c.before.before, c.loop-k.invariant.1.few)
 
 pub overflow_add-count : goal.overflow_add-count
-overflow_add-count c = omega (arith, below (goal.at.overflow_add-count c).In-loop-k, c.loop-k.invariant.1.few)
+overflow_add-count c = omega (arith, below c.before.before, c.loop-k.invariant.1.few)
 
 pub overflow_add-k : goal.overflow_add-k
-overflow_add-k c = omega (arith, below (goal.at.overflow_add-k c).In-loop-k)
+overflow_add-k c = omega (arith, below c.before.before)
 
 pub loop-k-smaller : goal.loop-k-smaller
 loop-k-smaller c = omega arith
@@ -61,14 +68,14 @@ loop-k-preserved c =
     let net = c.args.net in
     let after : List ℕ → ℕ → Type 0 = λ numbers count. Kept (loads net) (l.k + 1) count numbers in (
       omega arith,
-      ⊎_elim
-          (λ w.
-          subst₂ after (sym w.1) (sym w.2)
-          (keeps-one (loads net) l.k l.count l.numbers l.invariant.1 (below (goal.at.loop-k-preserved c).In-loop-k) (sym c.loads_at.ensures ∙ w.0.taken)))
-          (λ w.
-          subst₂ after (sym w.1) (sym w.2)
-          (keeps_same (loads net) l.k l.count l.numbers l.invariant.1 (sym c.loads_at.ensures ∙ w.0.left)))
-          c.if-loads_at.branch,
+      elim c.if-loads_at.branch [
+        | then-loads_at w ↦
+            subst₂ after (sym w.numbers-is) (sym w.count-is)
+            (keeps-one (loads net) l.k l.count l.numbers l.invariant.1 (below c.before.before) (sym c.loads_at.ensures ∙ w.if-loads_at.true))
+        | else-loads_at w ↦
+            subst₂ after (sym w.numbers-is) (sym w.count-is)
+            (keeps_same (loads net) l.k l.count l.numbers l.invariant.1 (sym c.loads_at.ensures ∙ w.if-loads_at.false))
+      ],
     )
 
 pub returns : goal.returns

@@ -7,18 +7,13 @@ use Prim.Native.Nat.{ℕ, ◌+◌, ◌-◌, ◌/◌, ◌%◌, ◌^◌, ◌≤◌
 use native.Mathlib.Nat.{div-one}
 use native.Mathlib.Omega.{arith}
 use native.Mathlib.Decide.{ℕ_discrete}
-use lib.ListN.{length, get_or, set, length-set, get_or-replicate}
+use lib.ListN.{get_or, set, length-set, get_or-replicate}
 use lib.Seq.{get_or-set_same, get_or-set_other}
 use Rattle.placements.specs.Listing.{codes_of}
 use Rattle.placements.proofs.Digits.{codes_length, digit_at, rest_more}
 use Rattle.placements.proofs.Padding.{padded_is}
+use Rattle.placements.proofs.numbers.codes_of.Invariants.{Written}
 use Rattle.placements.proofs.numbers.codes_of.Goals as goal
-
--- the last j of n codes are those of k, and those from n on are 0
-record Written (n k j : ℕ) (codes : List ℕ) : Type 0 where
-  long : length codes ≡ 6
-  last : (i : ℕ) → n ≤ i + j → i < n → get_or codes i 0 ≡ (k / 4 ^ (n - 1 - i)) % 4
-  beyond : (i : ℕ) → n ≤ i → i < 6 → get_or codes i 0 ≡ 0
 
 module _ (n k j rest : ℕ) (few : n ≤ 6) (hj : j < n) (is : rest ≡ k / 4 ^ j) (codes : List ℕ) (w : Written n k j codes) where
   abbrev more : List ℕ

@@ -18,12 +18,19 @@ use Rattle.signals.proofs.EndLaws.{sources_apart, source-holds, source-bit, end_
 use Rattle.ports.proofs.ByKind.{port_first}
 use Rattle.blocks.proofs.Bits.{bit-zero, bit-rest, rest_half}
 use Rattle.trace.specs.Numbers.{given}
+use Rattle.signals.proofs.ends.offer_sources.Lts as lts
+use Rattle.signals.proofs.ends.offer_sources.Tie as tie
+use Rattle.signals.proofs.ends.offer_sources.Reads as reads
 use Rattle.signals.proofs.ends.offer_sources.Goals as goal
 
-inside : (c : goal.In-loop-k) → get_or c.args.sources.now c.loop-k.k 0 < c.requires.among.size
+-- places on the way that several answers speak of
+abbrev In-loop-k : Type 0
+In-loop-k = lts.In-loop tie.the-claims reads.Pre reads.Post goal.the-invariant-loop-k goal.the-decreases-loop-k tie.handed_clauses
+
+inside : (c : In-loop-k) → get_or c.args.sources.now c.loop-k.k 0 < c.requires.among.size
 inside c = among_block _ 0 _ _ c.requires.among c.loop-k.k (omega arith)
 
-small : (c : goal.In-loop-k) → get_or c.args.sources.now c.loop-k.k 0 < 64
+small : (c : In-loop-k) → get_or c.args.sources.now c.loop-k.k 0 < 64
 small c = omega (arith, inside c, c.requires.among.rowed.few)
 
 pub loop-k-init : goal.loop-k-init
@@ -33,22 +40,22 @@ pub bounds-sources-k : goal.bounds-sources-k
 bounds-sources-k c = omega (arith, among_few c.args.rows.now 0 c.args.count _ c.requires.among)
 
 pub overflow_cast-b : goal.overflow_cast-b
-overflow_cast-b c = omega (arith, small (goal.at.overflow_cast-b c).In-loop-k)
+overflow_cast-b c = omega (arith, small c.before.before.before)
 
 pub number_in-end-requires : goal.number_in-end-requires
 number_in-end-requires c = omega (arith, c.requires.fitting.each)
 
 pub offset_bounds-words-b : goal.offset_bounds-words-b
-offset_bounds-words-b c = omega (arith, small (goal.at.offset_bounds-words-b c).In-loop-k)
+offset_bounds-words-b c = omega (arith, small c.before.before.before.before)
 
 pub bounds-words-b : goal.bounds-words-b
-bounds-words-b c = omega (arith, small (goal.at.bounds-words-b c).In-loop-k)
+bounds-words-b c = omega (arith, small c.before.before.before.before.before)
 
 pub bounds-marks-b : goal.bounds-marks-b
-bounds-marks-b c = omega (arith, small (goal.at.bounds-marks-b c).In-loop-k)
+bounds-marks-b c = omega (arith, small c.before.before.before.before.before.before.before)
 
 pub overflow_mul-b : goal.overflow_mul-b
-overflow_mul-b c = omega (arith, small (goal.at.overflow_mul-b c).In-loop-k)
+overflow_mul-b c = omega (arith, small c.before.before.before.before.before.before.before.before)
 
 pub offer_one-requires : goal.offer_one-requires
 offer_one-requires c =
@@ -58,7 +65,7 @@ offer_one-requires c =
     let f = c.requires.fitting in
     let e = c.number_in-end.ensures in
     record {
-      ported = m.rowed.ported _ (inside (goal.at.offer_one-requires c).In-loop-k);
+      ported = m.rowed.ported _ (inside c.before.before.before.before.before.before.before.before.before.before);
       sized = l.invariant.3;
       start_le_end = (subst (λ (x : ℕ). l.start ≤ x) (sym e) (rw l.invariant.2 (f.up l.k (omega arith))), subst (λ (x : ℕ). x ≤ length (given a.bytes.now a.stream.now)) (sym e) (f.within l.k (omega arith)));
     }

@@ -13,12 +13,19 @@ use Rattle.blocks.specs.Folds.{bit}
 use Rattle.passes.specs.Rows.{kind_no, base_no}
 use Rattle.rows.specs.Ends.{mask_at}
 use Rattle.blocks.proofs.Bits.{bit-zero, bit-rest, rest_half}
+use Rattle.signals.proofs.ends.ready_sinks.Lts as lts
+use Rattle.signals.proofs.ends.ready_sinks.Tie as tie
+use Rattle.signals.proofs.ends.ready_sinks.Reads as reads
 use Rattle.signals.proofs.ends.ready_sinks.Goals as goal
 
-inside : (c : goal.In-loop-k) → get_or c.args.lists.now (64 + c.loop-k.k) 0 < c.requires.among.size
+-- places on the way that several answers speak of
+abbrev In-loop-k : Type 0
+In-loop-k = lts.In-loop tie.the-claims reads.Pre reads.Post goal.the-invariant-loop-k goal.the-decreases-loop-k tie.handed_clauses
+
+inside : (c : In-loop-k) → get_or c.args.lists.now (64 + c.loop-k.k) 0 < c.requires.among.size
 inside c = among_block _ 1 _ _ c.requires.among c.loop-k.k (omega arith)
 
-small : (c : goal.In-loop-k) → get_or c.args.lists.now (64 + c.loop-k.k) 0 < 64
+small : (c : In-loop-k) → get_or c.args.lists.now (64 + c.loop-k.k) 0 < 64
 small c = omega (arith, inside c, c.requires.among.rowed.few)
 
 pub loop-k-init : goal.loop-k-init
@@ -31,16 +38,16 @@ pub bounds-lists-k : goal.bounds-lists-k
 bounds-lists-k c = omega (arith, among_few c.args.rows.now 1 c.args.count _ c.requires.among)
 
 pub overflow_cast-b : goal.overflow_cast-b
-overflow_cast-b c = omega (arith, small (goal.at.overflow_cast-b c).In-loop-k)
+overflow_cast-b c = omega (arith, small c.before.before.before)
 
 pub overflow_mul-b : goal.overflow_mul-b
-overflow_mul-b c = omega (arith, small (goal.at.overflow_mul-b c).In-loop-k)
+overflow_mul-b c = omega (arith, small c.before.before.before)
 
 pub ready_port-requires : goal.ready_port-requires
 ready_port-requires c =
     let m = c.requires.among in
     record {
-      ported = m.rowed.ported _ (inside (goal.at.ready_port-requires c).In-loop-k);
+      ported = m.rowed.ported _ (inside c.before.before.before.before);
       ready_len = c.loop-k.invariant.2;
       i_bound = omega arith;
     }

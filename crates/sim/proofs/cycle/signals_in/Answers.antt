@@ -20,12 +20,6 @@ pick-behind-requires c =
       order = given.rear.list;
     }
 
-slice-aggregate-wires : tie.Need-slice-aggregate-wires
-slice-aggregate-wires c = search rules
-
-slice-aggregate-wires-2 : tie.Need-slice-aggregate-wires-2
-slice-aggregate-wires-2 c = search rules
-
 pub wires-requires : goal.wires-requires
 unfolding numbers_of
 wires-requires c =

@@ -5,14 +5,24 @@ use mathlib.Core.Bool.{true}
 use Rattle.cycles.specs.State.{shape_ok}
 use Rattle.cycles.specs.Streams.{ends_fit}
 use Rattle.sim.proofs.Answers.{passed, refused-tested, refused-16, not-refused}
+use Rattle.sim.proofs.step.step_accepted.Lts as lts
+use Rattle.sim.proofs.step.step_accepted.Tie as tie
+use Rattle.sim.proofs.step.step_accepted.Reads as reads
 use Rattle.sim.proofs.step.step_accepted.Goals as goal
 
+-- places on the way that several answers speak of
+abbrev After-prepare-laid : Type 0
+After-prepare-laid = lts.After-prepare tie.the-claims reads.Pre reads.Post tie.handed_clauses
+
+abbrev Start : Type 0
+Start = lts.Start tie.the-claims reads.Pre reads.Post tie.handed_clauses
+
 -- what the call is given
-abbrev start : goal.After-prepare-laid → goal.Start
+abbrev start : After-prepare-laid → Start
 start c = c.before.before.before.before.before
 
 -- the state is in shape and the ends fit, where the tests have passed
-fits : (c : goal.After-prepare-laid) → c.prepare-laid.result.refusal ≡ 0
+fits : (c : After-prepare-laid) → c.prepare-laid.result.refusal ≡ 0
     → (shape_ok (start c).args.net (start c).args.state ≡ true) × (ends_fit (start c).args.net (start c).args.stream.now (start c).args.ends.now ≡ true)
 fits c e =
     let given = (start c).args in
@@ -28,23 +38,23 @@ prepare-laid-requires c =
 
 pub returns-then-laid-ne0 : goal.returns-then-laid-ne0
 returns-then-laid-ne0 c =
-    let given = (start (goal.at.returns-then-laid-ne0 c).After-prepare-laid).args in
+    let given = (start c.before.before.before.before).args in
     c.refused.ensures
     ∙ refused-tested given.net given.state given.stream.now given.ends.now given.offer given.ready c.prepare-laid.result.refusal c.prepare-laid.ensures.tested
     c.if-laid-ne0.true
 
 pub returns-then-state-ge1048576 : goal.returns-then-state-ge1048576
 returns-then-state-ge1048576 c =
-    let given = (start (goal.at.returns-then-state-ge1048576 c).After-prepare-laid).args in
-    let ok = fits (goal.at.returns-then-state-ge1048576 c).After-prepare-laid c.if-laid-ne0.false in
+    let given = (start c.before.before.before.before.before.before).args in
+    let ok = fits c.before.before.before.before.before.before c.if-laid-ne0.false in
     c.refused-then-state-ge1048576.ensures
     ∙ refused-16 given.net given.state given.stream.now given.ends.now given.offer given.ready ok.0 ok.1 c.if-state-ge1048576.true
 
 pub work-requires : goal.work-requires
 work-requires c =
-    let ok = fits (goal.at.work-requires c).After-prepare-laid c.if-laid-ne0.false in
+    let ok = fits c.before.before.before.before.before.before.before.before c.if-laid-ne0.false in
     record {
-      promises = (start (goal.at.work-requires c).After-prepare-laid).requires;
+      promises = (start c.before.before.before.before.before.before.before.before).requires;
       flat = c.prepare-laid.ensures.flat;
       kinds = c.prepare-laid.ensures.kinds;
       state_value = (ok.0, c.if-state-ge1048576.false);
@@ -53,7 +63,7 @@ work-requires c =
 
 pub returns : goal.returns
 returns c =
-    let given = (start (goal.at.returns c).After-prepare-laid).args in
-    let ok = fits (goal.at.returns c).After-prepare-laid c.if-laid-ne0.false in
+    let given = (start c.before.before.before.before.before.before.before.before.before).args in
+    let ok = fits c.before.before.before.before.before.before.before.before.before c.if-laid-ne0.false in
     c.work.ensures
     ∙ not-refused given.net given.state given.stream.now given.ends.now given.offer given.ready ok.0 ok.1 c.if-state-ge1048576.false

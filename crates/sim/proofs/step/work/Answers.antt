@@ -7,18 +7,25 @@ use Rattle.rows.specs.Ends.{stream_at, mask_at}
 use Rattle.nets.proofs.Nets.{channels-high}
 use Rattle.sim.specs.Laid.{Given}
 use Rattle.sim.proofs.Results.{given_of, stepped-is}
+use Rattle.sim.proofs.step.work.Lts as lts
+use Rattle.sim.proofs.step.work.Tie as tie
+use Rattle.sim.proofs.step.work.Reads as reads
 use Rattle.sim.proofs.step.work.Goals as goal
 
+-- places on the way that several answers speak of
+abbrev Start : Type 0
+Start = lts.Start tie.the-claims reads.Pre reads.Post tie.handed_clauses
+
 -- the lengths that the arrays of a state have
-state-long : (c : goal.Start) → (length c.args.state.words ≡ 64) × (length c.args.state.marks ≡ 64)
+state-long : (c : Start) → (length c.args.state.words ≡ 64) × (length c.args.state.marks ≡ 64)
 state-long c =
     let g = c.well_formed.1.1.1.1.1.0 in
-    let x : length c.args.state.words ≡ 64 = simp length-map at g.1.1.1.0.1.0.1 in
-    let y : length c.args.state.marks ≡ 64 = simp length-map at g.1.1.1.1.0.1.0.1 in
+    let x : length c.args.state.words ≡ 64 = g.1.1.1.0.1.0.1 in
+    let y : length c.args.state.marks ≡ 64 = g.1.1.1.1.0.1.0.1 in
     (x, y)
 
 -- what the signals are worked out from
-abbrev laid : (c : goal.Start)
+abbrev laid : (c : Start)
     → Given c.args.rows.now c.args.net.size c.args.plan.«data» c.args.plan.control c.args.sorted.counts c.args.sorted.lists c.args.state.words
     c.args.state.marks c.args.stream.now c.args.ends.now
 laid c =
@@ -27,8 +34,9 @@ laid c =
 
 pub signals_in-requires : goal.signals_in-requires
 signals_in-requires c =
+    let start = c.before.before.before.before.before.before.before.before.before.before.before.before.before.before.before.before.before.before.before in
     record {
-      given = laid (goal.at.signals_in-requires c).Start;
+      given = laid start;
       sized = (record { valids = refl; words = refl }, refl);
     }
 
@@ -38,12 +46,13 @@ moves_of-moved-requires c =
 
 pub registers-requires : goal.registers-requires
 registers-requires c =
+    let start = c.before.before.before.before.before.before.before.before.before.before.before.before.before.before.before.before.before.before.before.before.before.before.before.before.before.before.before.before.before.before.before.before in
     record {
-      rowed = (laid (goal.at.registers-requires c).Start).rowed;
-      kinds = (laid (goal.at.registers-requires c).Start).kinds;
-      shaped = (laid (goal.at.registers-requires c).Start).shaped;
+      rowed = (laid start).rowed;
+      kinds = (laid start).kinds;
+      shaped = (laid start).shaped;
       all_settled = c.signals_in.ensures.settled;
-      words_len = state-long (goal.at.registers-requires c).Start;
+      words_len = state-long start;
     }
 
 pub overflow_add-after : goal.overflow_add-after
@@ -55,8 +64,6 @@ returns c =
     let given = c.args in
     let signals = c.signals_in in
     let next = c.registers in
-    let arrays = c.signals_in.new.1.1.1.1.1.1.1.1.1.1.1.1.1 in
-    let registers = c.registers.new.1.1.1.1.1.1.1 in
     let streams = stream_at given.rows.now given.stream.now given.ends.now in
     let masks = mask_at given.rows.now given.offer given.ready in
     stepped-is given.net given.plan c.requires.promises given.rows.now given.values.now c.requires.flat given.state c.requires.state_value.0 given.stream.now
