@@ -187,6 +187,23 @@ def convert_body(f, body, places):
                     piece = re.sub(rf"(?<![\w.'-]){re.escape(v)}(?![\w.'-])", "\x03" + b + "".join(".before" for _ in old) + "\x04", piece)
             done += piece
     done = re.sub(r"\x01[ \n]*", "", done)
+
+    def behind(m):
+        """A field of what a lemma returns: it is found by the step's name alone."""
+        fields = [x for x in m[1].split(".") if x and x != "before"]
+        if not fields:
+            return m[0]
+        if fields[0] == "pre":
+            fields[0] = "requires"
+        first = norm(fields[0])
+        if first in OWN:
+            new = f.fields(None, fields)
+        else:
+            at = [p[0] for p in f.info["places"] if norm(p[2][0]) == first and (p[3] or re.match("loop|if", first))]
+            new = f.fields(at[0], fields) if at else None
+        return ")" + "".join("." + x for x in (new or fields))
+
+    done = re.sub(rf"\)((?:\.{NAME})+)", behind, done)
     def placed(m):
         types = f.helpers.get(m[1], [])
         args = re.findall(r"\x03([^\x04]*)\x04", m[2])
@@ -342,6 +359,12 @@ def turn(crate, folder, path, info, raw=None):
         text = re.sub(r"(borrow.Author.Tests.\{.*)not_false", r"\1not-false", text)
         if "borrow.Author.Tests.{" in text and "not-false" in text:
             text = re.sub(r"\bnot_false\b", "not-false", text)
+    # places that the old proof named itself
+    for alias, place in re.findall(rf"(?m)^abbrev ({NAME}) : Type 0\n\1 = (tie\.{NAME}(?: (?:invariant|decreases)_{NAME})*)\n", text):
+        text = text.replace(f"abbrev {alias} : Type 0\n{alias} = {place}\n", "")
+        text = re.sub(rf"(let {NAME}) : {re.escape(alias)} =", r"\1 =", text)
+        text = re.sub(rf"(?<![\w.'-]){re.escape(alias)}(?![\w'-])", place, text)
+    text = re.sub(rf"(let {NAME}) : tie\.{NAME}(?: (?:invariant|decreases)_{NAME})* =", r"\1 =", text)
     head, uses, decls = blocks_of(text)
     f = Function(path, info)
     if raw:

@@ -11,20 +11,27 @@ use Rattle.chains.specs.Rows.{Seen, seen, next_no, unmet, trail_no}
 use Rattle.chains.proofs.Trails.{unmet_all, from-delivers, from-ready, from-word}
 use Rattle.stalls.specs.Calls.{chain_by}
 use Rattle.stalls.proofs.Answers.{answered}
+use Rattle.stalls.proofs.follow.chain_from.Lts as lts
+use Rattle.stalls.proofs.follow.chain_from.Tie as tie
+use Rattle.stalls.proofs.follow.chain_from.Reads as reads
 use Rattle.stalls.proofs.follow.chain_from.Goals as goal
 
+-- places on the way that several answers speak of
+abbrev Start : Type 0
+Start = lts.Start tie.the-claims reads.Pre reads.Post tie.handed_clauses
+
 -- the cycle, whether the first channel has V and R there, and the chain
-abbrev cycle : goal.Start → Seen
+abbrev cycle : Start → Seen
 cycle c =
     seen c.args.rows.now c.args.words.now c.args.marks.now c.args.valid.now c.args.word.now c.args.ready.now c.args.from.now c.args.to.now
 
-abbrev has_word : goal.Start → Bool
+abbrev has_word : Start → Bool
 has_word c = get_or c.args.valid.now c.args.c false
 
-abbrev is_ready : goal.Start → Bool
+abbrev is_ready : Start → Bool
 is_ready c = get_or c.args.ready.now c.args.c false
 
-abbrev chain : goal.Start → Trail
+abbrev chain : Start → Trail
 chain c = chain_from (next_no (cycle c)) (has_word c) (is_ready c) c.args.c
 
 all_fit : 0 + unmet none_met ≤ 128
@@ -39,12 +46,14 @@ ask_word-walked-requires c =
 
 pub returns-then-not-valid-at : goal.returns-then-not-valid-at
 returns-then-not-valid-at c =
-    answered c.args.valid.now (chain (goal.at.returns-then-not-valid-at c).Start) (trail_no (cycle (goal.at.returns-then-not-valid-at c).Start) none_met true c.args.c) _ _ c.ask_word-walked.result
-    (from-word (next_no (cycle (goal.at.returns-then-not-valid-at c).Start)) (has_word (goal.at.returns-then-not-valid-at c).Start) (is_ready (goal.at.returns-then-not-valid-at c).Start) c.args.c (not-true (has_word (goal.at.returns-then-not-valid-at c).Start) c.if-not-valid-at.true)) c.ask_word-walked.ensures
+    let start = c.before.before.before.before.before.before.before.before in
+    answered c.args.valid.now (chain start) (trail_no (cycle start) none_met true c.args.c) _ _ c.ask_word-walked.result
+    (from-word (next_no (cycle start)) (has_word start) (is_ready start) c.args.c c.if-not-valid-at.true) c.ask_word-walked.ensures
 
 pub returns-then-ready-at : goal.returns-then-ready-at
 returns-then-ready-at c =
-    let delivers = from-delivers (next_no (cycle (goal.at.returns-then-ready-at c).Start)) (has_word (goal.at.returns-then-ready-at c).Start) (is_ready (goal.at.returns-then-ready-at c).Start) c.args.c (not-false (has_word (goal.at.returns-then-ready-at c).Start) c.if-not-valid-at.false) c.if-ready-at.true in
+    let start = c.before.before.before.before.before.before.before.before in
+    let delivers = from-delivers (next_no (cycle start)) (has_word start) (is_ready start) c.args.c c.if-not-valid-at.false c.if-ready-at.true in
     c.no_chain.ensures ∙ ap (chain_by (λ x. get_or c.args.valid.now x false)) (sym delivers)
 
 pub ask_ready-walked-requires : goal.ask_ready-walked-requires
@@ -56,5 +65,6 @@ ask_ready-walked-requires c =
 
 pub returns : goal.returns
 returns c =
-    answered c.args.valid.now (chain (goal.at.returns c).Start) (trail_no (cycle (goal.at.returns c).Start) none_met false c.args.c) _ _ c.ask_ready-walked.result
-    (from-ready (next_no (cycle (goal.at.returns c).Start)) (has_word (goal.at.returns c).Start) (is_ready (goal.at.returns c).Start) c.args.c (not-false (has_word (goal.at.returns c).Start) c.if-not-valid-at.false) c.if-ready-at.false) c.ask_ready-walked.ensures
+    let start = c.before.before.before.before.before.before.before.before.before.before.before in
+    answered c.args.valid.now (chain start) (trail_no (cycle start) none_met false c.args.c) _ _ c.ask_ready-walked.result
+    (from-ready (next_no (cycle start)) (has_word start) (is_ready start) c.args.c c.if-not-valid-at.false c.if-ready-at.false) c.ask_ready-walked.ensures

@@ -6,14 +6,24 @@ use Rattle.cycles.specs.State.{shape_ok}
 use Rattle.cycles.specs.Streams.{ends_fit}
 use Rattle.sim.proofs.Answers.{passed}
 use Rattle.stalls.proofs.Answers.{refused-tested, refused-24, not-refused}
+use Rattle.stalls.proofs.follow.follow_accepted.Lts as lts
+use Rattle.stalls.proofs.follow.follow_accepted.Tie as tie
+use Rattle.stalls.proofs.follow.follow_accepted.Reads as reads
 use Rattle.stalls.proofs.follow.follow_accepted.Goals as goal
 
+-- places on the way that several answers speak of
+abbrev After-prepare-laid : Type 0
+After-prepare-laid = lts.After-prepare tie.the-claims reads.Pre reads.Post tie.handed_clauses
+
+abbrev Start : Type 0
+Start = lts.Start tie.the-claims reads.Pre reads.Post tie.handed_clauses
+
 -- what the call is given
-abbrev start : goal.After-prepare-laid → goal.Start
+abbrev start : After-prepare-laid → Start
 start c = c.before.before.before.before.before
 
 -- the state is in shape and the ends fit, where the tests have passed
-fits : (c : goal.After-prepare-laid) → c.prepare-laid.result.refusal ≡ 0
+fits : (c : After-prepare-laid) → c.prepare-laid.result.refusal ≡ 0
     → (shape_ok (start c).args.net (start c).args.state ≡ true) × (ends_fit (start c).args.net (start c).args.stream.now (start c).args.ends.now ≡ true)
 fits c e =
     let given = (start c).args in
@@ -29,29 +39,32 @@ prepare-laid-requires c =
 
 pub returns-then-laid-ne0 : goal.returns-then-laid-ne0
 returns-then-laid-ne0 c =
-    let given = (start (goal.at.returns-then-laid-ne0 c).After-prepare-laid).args in
+    let given = c.args in
     c.no_chain.ensures
     ∙ refused-tested given.net given.state given.stream.now given.ends.now given.offer given.ready given.channel c.prepare-laid.result.refusal
     c.prepare-laid.ensures.tested c.if-laid-ne0.true
 
 pub returns-then-net-channel : goal.returns-then-net-channel
 returns-then-net-channel c =
-    let given = (start (goal.at.returns-then-net-channel c).After-prepare-laid).args in
-    let ok = fits (goal.at.returns-then-net-channel c).After-prepare-laid c.if-laid-ne0.false in
+    let prepared = c.before.before.before.before.before.before in
+    let given = c.args in
+    let ok = fits prepared c.if-laid-ne0.false in
     c.no_chain-then-net-channel.ensures ∙ refused-24 given.net given.state given.stream.now given.ends.now given.offer given.ready given.channel ok.0 ok.1 c.if-net-channel.true
 
 pub work-requires : goal.work-requires
 work-requires c =
+    let prepared = c.before.before.before.before.before.before.before.before in
     record {
-      promises = (start (goal.at.work-requires c).After-prepare-laid).requires;
+      promises = c.requires;
       flat = c.prepare-laid.ensures.flat;
       kinds = c.prepare-laid.ensures.kinds;
-      state_value = fits (goal.at.work-requires c).After-prepare-laid c.if-laid-ne0.false;
+      state_value = fits prepared c.if-laid-ne0.false;
       channel_lt_channels = c.if-net-channel.false;
     }
 
 pub returns : goal.returns
 returns c =
-    let given = (start (goal.at.returns c).After-prepare-laid).args in
-    let ok = fits (goal.at.returns c).After-prepare-laid c.if-laid-ne0.false in
+    let prepared = c.before.before.before.before.before.before.before.before.before in
+    let given = c.args in
+    let ok = fits prepared c.if-laid-ne0.false in
     c.work.ensures ∙ not-refused given.net given.state given.stream.now given.ends.now given.offer given.ready given.channel ok.0 ok.1 c.if-net-channel.false

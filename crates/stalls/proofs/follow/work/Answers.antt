@@ -20,14 +20,12 @@ signals_in-requires c =
 pub chain_from-requires : goal.chain_from-requires
 chain_from-requires c =
     let given = c.args in
-    let arrays = c.signals_in.new.1.1.1.1.1.1.1.1.1.1.1.1.1 in
     within_of given.net given.plan c.requires.promises given.rows.now given.values.now c.requires.flat given.state c.requires.state_value.0 given.stream.now
     given.ends.now c.signals_in.new.valid c.signals_in.new.word c.signals_in.new.ready given.channel c.requires.channel_lt_channels
 
 pub returns : goal.returns
 returns c =
     let given = c.args in
-    let arrays = c.signals_in.new.1.1.1.1.1.1.1.1.1.1.1.1.1 in
     c.chain_from.ensures
     ∙ chain-is given.net given.plan c.requires.promises given.rows.now given.values.now c.requires.flat given.state c.requires.state_value.0 given.stream.now
     given.ends.now c.signals_in.new.valid c.signals_in.new.word c.signals_in.new.ready c.requires.state_value.1 given.offer given.ready c.signals_in.ensures.worked given.channel
