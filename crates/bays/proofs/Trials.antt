@@ -350,6 +350,7 @@ mixed_wants net m (Memᴰ.tail (Memᴰ.head e)) = subst (Wants 2) (sym e) tt
 mixed_wants net m (Memᴰ.tail (Memᴰ.tail (Memᴰ.head e))) = subst (Wants 2) (sym e) refl
 mixed_wants net m (Memᴰ.tail (Memᴰ.tail (Memᴰ.tail (Memᴰ.head e)))) = subst (Wants 2) (sym e) refl
 mixed_wants net m (Memᴰ.tail (Memᴰ.tail (Memᴰ.tail (Memᴰ.tail (Memᴰ.head e))))) = subst (Wants 2) (sym e) refl
+mixed_wants net m (Memᴰ.tail (Memᴰ.tail (Memᴰ.tail (Memᴰ.tail (Memᴰ.tail i))))) = elim i [ ]
 
 pub mixed_served : (net : Net) → Memᴰ 2 (take 4 (named (fresh_bays line).bays (mixed net)))
 mixed_served net = served_in_four (fresh_bays line).bays (fresh_turn line) 2 (omega arith) (mixed net) (mixed_wants net) (omega arith)

@@ -14,7 +14,7 @@ slice_bounds-ends-end c =
     omega (arith, c.count_sources-k.ensures, few_sources _ c.requires, ap length c.ends_of_three-ends.ensures, length-ends 32)
 
 pub slice_bounds-run-end-2 : goal.slice_bounds-run-end-2
-slice_bounds-run-end-2 c = sym (length-take-le _ _ (array-share-prefix-ends c.before))
+slice_bounds-run-end-2 c = sym (length-take-le _ _ (omega (arith, c.count_sources-k.ensures, few_sources _ c.requires, ap length c.ends_of_three-ends.ensures, length-ends 32)))
 
 pub returns : goal.returns
 returns c =

@@ -23,9 +23,6 @@ returns-then-ends-ne0 c =
       trace_after = o.1;
     }
 
-slice-aggregate-run-given : tie.Need-slice-aggregate-run-given
-slice-aggregate-run-given c = search rules
-
 pub returns-then-tried-ne0 : goal.returns-then-tried-ne0
 returns-then-tried-ne0 c =
     let a = c.args in
@@ -35,7 +32,7 @@ returns-then-tried-ne0 c =
     (omega (arith, c.if-words-ne0.false))
     (omega (arith, c.if-ends-ne0.false))
     f.result f.ensures t.result _
-    (λ z. omega (arith, c.if-masks-ne0.true, z)) t.ensures c.if-tried-ne0.true in
+    (λ z. omega (arith, c.if-masks-ne0.true, z)) (t.ensures.value, t.ensures.trace_after) c.if-tried-ne0.true in
     record {
       value = c.packed-then-tried-ne0.ensures ∙ o.0;
       trace_after = o.1;
@@ -50,7 +47,7 @@ returns-then-masks-ne0 c =
     (omega (arith, c.if-words-ne0.false))
     (omega (arith, c.if-ends-ne0.false))
     f.result f.ensures t.result _
-    (λ z. omega (arith, c.if-masks-ne0.true, z)) t.ensures c.if-tried-ne0.false in
+    (λ z. omega (arith, c.if-masks-ne0.true, z)) (t.ensures.value, t.ensures.trace_after) c.if-tried-ne0.false in
     record {
       value = c.packed-then-masks-ne0.ensures ∙ o.0;
       trace_after = o.1;
@@ -65,7 +62,7 @@ packed-requires-2 c =
     (omega (arith, c.if-words-ne0.false))
     (omega (arith, c.if-ends-ne0.false))
     f.result f.ensures t.result _
-    (omega (arith, c.if-masks-ne0.false)) t.ensures
+    (omega (arith, c.if-masks-ne0.false)) (t.ensures.value, t.ensures.trace_after)
 
 pub returns : goal.returns
 returns c =
@@ -76,7 +73,7 @@ returns c =
     (omega (arith, c.if-words-ne0.false))
     (omega (arith, c.if-ends-ne0.false))
     f.result f.ensures t.result _
-    (omega (arith, c.if-masks-ne0.false)) t.ensures in
+    (omega (arith, c.if-masks-ne0.false)) (t.ensures.value, t.ensures.trace_after) in
     record {
       value = c.packed-2.ensures ∙ o.0;
       trace_after = o.1;
