@@ -24,8 +24,9 @@ elsewhere c =
 
 pub returns-then-stops : goal.returns-then-stops
 returns-then-stops c =
+    let outset = c.before.before.before.before.before.before in
     let given = c.args in
-    stop_here (m_no given.rows.now given.b) given.b (kind_no given.rows.now given.b) given.question c.requires.sound (elsewhere c.before.before.before.before.before.before)
+    stop_here (m_no given.rows.now given.b) given.b (kind_no given.rows.now given.b) given.question c.requires.sound (elsewhere outset)
     c.stops.result c.stops.ensures c.if-stops.true c.stop.result c.stop.ensures
 
 pub hand_on-requires : goal.hand_on-requires
@@ -40,6 +41,7 @@ hand_on-requires c =
 
 pub returns : goal.returns
 returns c =
+    let outset = c.before.before.before.before.before.before.before.before.before in
     let given = c.args in
-    goes_past (m_no given.rows.now given.b) given.b (kind_no given.rows.now given.b) given.question c.requires.sound (elsewhere c.before.before.before.before.before.before.before.before.before) c.hand_on.result
+    goes_past (m_no given.rows.now given.b) given.b (kind_no given.rows.now given.b) given.question c.requires.sound (elsewhere outset) c.hand_on.result
     (c.hand_on.ensures (get_or given.marks.now given.b 0)) c.stops.result c.stops.ensures c.if-stops.false

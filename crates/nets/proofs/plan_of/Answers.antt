@@ -58,13 +58,16 @@ ends_of-from-requires c =
 
 pub returns-then-not-from : goal.returns-then-not-from
 returns-then-not-from c =
-    let k = known c.before.before.before.before.before.before.before in
+    let outset = c.before.before.before.before.before.before.before in
+    let k = known outset in
     refused_plan _ _ Connection c.refused-then-not-from.ensures (omega arith)
     (k.fields, not-joined _ _ k.all_rows k.fields true _ _ c.ends_of-from.ensures (search (not-true)))
 
 -- every channel leaves one block
 abbrev fields_2 : Else-not-from → Else-not-read_net
-fields_2 c = c.before.before.before.before.before.before
+fields_2 c =
+    let outset = c.before.before.before.before.before.before in
+    outset
 
 producers : (c : Else-not-from) → Table (net_1 (fields_2 c)) true c.ends_of-from.result.blocks
 producers c =
@@ -78,13 +81,16 @@ ends_of-to-requires c =
 
 pub returns-then-not-to : goal.returns-then-not-to
 returns-then-not-to c =
-    let k = known (fields_2 c.before.before.before.before.before) in
+    let outset = c.before.before.before.before.before in
+    let k = known (fields_2 outset) in
     refused_plan _ _ Connection c.refused-then-not-to.ensures (omega arith)
     (k.fields, not-joined _ _ k.all_rows k.fields false _ _ c.ends_of-to.ensures (search (not-true)))
 
 -- and enters one
 abbrev from_3 : Else-not-to → Else-not-from
-from_3 c = c.before.before.before.before
+from_3 c =
+    let outset = c.before.before.before.before in
+    outset
 
 abbrev net_3 : Else-not-to → Net
 net_3 c = net_1 (fields_2 (from_3 c))
@@ -106,9 +112,10 @@ few_ends-requires c = (ends-needs _ _ (known (fields_2 (from_3 c.before)))).0
 
 pub returns-then-not-few_ends : goal.returns-then-not-few_ends
 returns-then-not-few_ends c =
-    let k = known (fields_2 (from_3 c.before.before.before.before)) in
+    let outset = c.before.before.before.before in
+    let k = known (fields_2 (from_3 outset)) in
     refused_plan _ _ Ends c.refused-then-not-few_ends.ensures (omega arith)
-    (k.fields, (joins c.before.before.before.before, sym (few_same _ _ k.all_rows) ∙ sym c.few_ends.ensures ∙ search (not-true)))
+    (k.fields, (joins outset, sym (few_same _ _ k.all_rows) ∙ sym c.few_ends.ensures ∙ search (not-true)))
 
 -- the sources and sinks are few
 abbrev joins_4 : Else-not-few_ends → Else-not-to
@@ -134,13 +141,16 @@ order_of-data-requires c =
 
 pub returns-then-not-data : goal.returns-then-not-data
 returns-then-not-data c =
-    let e = from_3 (joins_4 c.before.before.before.before.before.before.before) in
+    let outset = c.before.before.before.before.before.before.before in
+    let e = from_3 (joins_4 outset) in
     refused_plan _ _ DataLoop c.refused-then-not-data.ensures (omega arith)
-    (joined c.before.before.before.before.before.before.before, loop-is _ _ (known (fields_2 e)) _ (producers e) false _ _ c.order_of-data.ensures (search (not-true)))
+    (joined outset, loop-is _ _ (known (fields_2 e)) _ (producers e) false _ _ c.order_of-data.ensures (search (not-true)))
 
 -- there is an order for valid
 abbrev joined_5 : Else-not-data → Else-not-few_ends
-joined_5 c = c.before.before.before.before.before.before
+joined_5 c =
+    let outset = c.before.before.before.before.before.before in
+    outset
 
 forth : (c : Else-not-data) → InOrder (net_4 (joined_5 c)) false c.order_of-data.result.blocks
 forth c =
@@ -155,18 +165,21 @@ order_of-control-requires c =
 
 pub returns-then-not-control : goal.returns-then-not-control
 returns-then-not-control c =
-    let e = from_3 (joins_4 (joined_5 c.before.before.before.before.before.before)) in
+    let outset = c.before.before.before.before.before.before in
+    let e = from_3 (joins_4 (joined_5 outset)) in
     refused_plan _ _ ControlLoop c.refused-then-not-control.ensures (omega arith) (
-      joined (joined_5 c.before.before.before.before.before.before),
+      joined (joined_5 outset),
       (
-        no_free_loop _ _ _ (forth c.before.before.before.before.before.before),
+        no_free_loop _ _ _ (forth outset),
         loop-is _ _ (known (fields_2 e)) _ (producers e) true _ _ c.order_of-control.ensures (search (not-true)),
       ),
     )
 
 -- and one that gives ready
 abbrev forth_6 : Else-not-control → Else-not-data
-forth_6 c = c.before.before.before.before.before
+forth_6 c =
+    let outset = c.before.before.before.before.before in
+    outset
 
 back : (c : Else-not-control) → InOrder (net_4 (joined_5 (forth_6 c))) true c.order_of-control.result.blocks
 back c =

@@ -36,10 +36,11 @@ overflow_add-bits c = omega (arith, c.block_bits-bits.ensures, bits_most (block_
 
 pub loop-i-preserved : goal.loop-i-preserved
 loop-i-preserved c =
+    let outset = c.before.before.before.before.before.before in
     let n = c.args.net in
     let l = c.loop-i in (
       search rules,
-      omega (arith, c.block_bits-bits.ensures, turn-bits n (long c.before.before.before.before.before.before) l.i (search rules)),
+      omega (arith, c.block_bits-bits.ensures, turn-bits n (long outset) l.i (search rules)),
       omega (arith, c.block_bits-bits.ensures, bits_most (block_at n l.i)),
     )
 

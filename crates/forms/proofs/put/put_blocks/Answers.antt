@@ -38,15 +38,17 @@ bounds-blocks-i c = omega (arith, c.requires.0)
 
 pub put_block-requires : goal.put_block-requires
 put_block-requires c =
+    let outset = c.before.before.before.before.before.before.before in
     let l = c.loop-i in
     let p = c.requires in
-    (omega (arith, turn-room c.args.net (long c.before.before.before.before.before.before.before) l.i (search rules), p.1, l.invariant), omega (arith, p.0, l.invariant))
+    (omega (arith, turn-room c.args.net (long outset) l.i (search rules), p.1, l.invariant), omega (arith, p.0, l.invariant))
 
 pub overflow_add-at : goal.overflow_add-at
 overflow_add-at c = omega (arith, c.block_bits-at.ensures, bits_most (block_at c.args.net c.loop-i.i), c.requires.0, c.loop-i.invariant)
 
 pub loop-i-preserved : goal.loop-i-preserved
 loop-i-preserved c =
+    let outset = c.before.before.before.before.before.before.before.before.before.before.before.before in
     let a = c.args in
     let l = c.loop-i in
     let w = c.put_block in
@@ -54,13 +56,13 @@ loop-i-preserved c =
     let inside : l.i < a.net.size = search rules in
     let room : length (encode a.net) ≤ length (bits_of a.buf.now) = rw length_bits_of c.requires.1 in (
       search rules,
-      omega (arith, c.block_bits-at.ensures, turn-bits a.net (long c.before.before.before.before.before.before.before.before.before.before.before.before) l.i inside, l.invariant),
+      omega (arith, c.block_bits-at.ensures, turn-bits a.net (long outset) l.i inside, l.invariant),
       omega (arith, c.block_bits-at.ensures, bits_most b, l.invariant),
       w.auto.buf ∙ l.invariant.3,
       w.ensures
           ∙ ap (λ (x : List Bool). over x l.at (put_block b [])) l.invariant.4
           ∙ ap (λ (k : ℕ). over (over (bits_of a.buf.now) 32 (up_to a.net.blocks l.i)) k (put_block b [])) l.invariant.1
-          ∙ turn-over a.net (long c.before.before.before.before.before.before.before.before.before.before.before.before) l.i inside (bits_of a.buf.now) room,
+          ∙ turn-over a.net (long outset) l.i inside (bits_of a.buf.now) room,
     )
 
 pub shape_of-buf : goal.shape_of-buf

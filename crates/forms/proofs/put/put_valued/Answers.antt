@@ -27,22 +27,25 @@ long c = search rules
 
 pub put_field-requires : goal.put_field-requires
 put_field-requires c =
-    let n = bits_valued c.args.b (long c.before.before.before.before.before.before) (sym c.has_value.ensures ∙ c.if-has_value.true) in
+    let outset = c.before.before.before.before.before.before in
+    let n = bits_valued c.args.b (long outset) (sym c.has_value.ensures ∙ c.if-has_value.true) in
     (omega (arith, n), search rules, search rules)
 
 pub put_ports-requires : goal.put_ports-requires
 put_ports-requires c =
+    let outset = c.before.before.before.before.before.before.before.before.before.before in
     let b = c.args.b in
-    let n = bits_valued b (long c.before.before.before.before.before.before.before.before.before.before) (sym c.has_value.ensures ∙ c.if-has_value.true) in
+    let n = bits_valued b (long outset) (sym c.has_value.ensures ∙ c.if-has_value.true) in
     let p = c.port_count-count.ensures in
     (omega (arith, n, p, c.put_field.auto.buf), search rules, omega (arith, p, port_count_le b.kind b.m))
 
 pub returns-then-has_value : goal.returns-then-has_value
 returns-then-has_value c =
+    let outset = c.before.before.before.before.before.before.before.before.before.before.before.before.before.before in
     let a = c.args in
     let b = c.args.b in
     let t = sym c.has_value.ensures ∙ c.if-has_value.true in
-    let room : a.at + 32 ≤ length (bits_of a.buf.now) = rw length_bits_of (omega (arith, bits_valued b (long c.before.before.before.before.before.before.before.before.before.before.before.before.before.before) t, c.requires)) in
+    let room : a.at + 32 ≤ length (bits_of a.buf.now) = rw length_bits_of (omega (arith, bits_valued b (long outset) t, c.requires)) in
     c.put_ports.ensures
     ∙ ap (λ (k : ℕ). over (bits_of c.put_field.new.buf) (a.at + 32) (put_many (put_field 7) (take k b.ports) [])) c.port_count-count.ensures
     ∙ ap (λ (x : List Bool). over x (a.at + 32) (put_many (put_field 7) (take (port_count b.kind b.m) b.ports) [])) c.put_field.ensures
@@ -50,8 +53,9 @@ returns-then-has_value c =
 
 pub put_ports-requires-2 : goal.put_ports-requires-2
 put_ports-requires-2 c =
+    let outset = c.before.before.before.before.before.before in
     let b = c.args.b in
-    let n = bits_plain b (long c.before.before.before.before.before.before) (sym c.has_value.ensures ∙ c.if-has_value.false) in
+    let n = bits_plain b (long outset) (sym c.has_value.ensures ∙ c.if-has_value.false) in
     let p = c.port_count-count.ensures in
     (omega (arith, n, p), search rules, omega (arith, p, port_count_le b.kind b.m))
 

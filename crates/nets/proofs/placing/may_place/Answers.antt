@@ -81,26 +81,38 @@ pub overflow_cast-c : goal.overflow_cast-c
 overflow_cast-c c = omega (arith, feeds c.before.before.before)
 
 pub bounds-producer-c : goal.bounds-producer-c
-bounds-producer-c c = omega (arith, feeds c.before.before.before.before)
+bounds-producer-c c =
+    let outset = c.before.before.before.before in
+    omega (arith, feeds outset)
 
 pub overflow_cast-a : goal.overflow_cast-a
-overflow_cast-a c = omega (arith, feeds c.before.before.before.before.before)
+overflow_cast-a c =
+    let outset = c.before.before.before.before.before in
+    omega (arith, feeds outset)
 
 pub bounds-places-a : goal.bounds-places-a
-bounds-places-a c = omega (arith, feeds c.before.before.before.before.before.before)
+bounds-places-a c =
+    let outset = c.before.before.before.before.before.before in
+    omega (arith, feeds outset)
 
 pub overflow_mul-a : goal.overflow_mul-a
-overflow_mul-a c = omega (arith, feeds c.before.before.before.before.before.before.before)
+overflow_mul-a c =
+    let outset = c.before.before.before.before.before.before.before in
+    omega (arith, feeds outset)
 
 pub bounds-rows-a : goal.bounds-rows-a
-bounds-rows-a c = omega (arith, feeds c.before.before.before.before.before.before.before)
+bounds-rows-a c =
+    let outset = c.before.before.before.before.before.before.before in
+    omega (arith, feeds outset)
 
 pub returns-then-not-fed : goal.returns-then-not-fed
 returns-then-not-fed c =
     judged_no _ _ _ _ _ _ c.loop-j.j c.loop-j-test.true (sym (fed_is c.before.before) ∙ search (not-true))
 
 pub overflow_add-j : goal.overflow_add-j
-overflow_add-j c = omega (arith, feeds c.before.before.before.before.before.before.before.before.before.before.before)
+overflow_add-j c =
+    let outset = c.before.before.before.before.before.before.before.before.before.before.before in
+    omega (arith, feeds outset)
 
 pub loop-j-preserved : goal.loop-j-preserved
 loop-j-preserved c =

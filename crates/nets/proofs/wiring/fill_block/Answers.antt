@@ -62,30 +62,38 @@ pub overflow_cast-c : goal.overflow_cast-c
 overflow_cast-c c = omega (arith, port_in c.before.before.before)
 
 pub bounds-table-c : goal.bounds-table-c
-bounds-table-c c = omega (arith, port_in c.before.before.before.before)
+bounds-table-c c =
+    let outset = c.before.before.before.before in
+    omega (arith, port_in outset)
 
 pub returns-then-table-c : goal.returns-then-table-c
 returns-then-table-c c =
+    let outset = c.before.before.before.before.before.before in
     record {
       table_len_2 = c.loop-j.invariant.long;
-      filled = filling-clash _ _ _ c.requires.sound c.loop-j.table c.loop-j.j (in_side c.before.before.before.before.before.before) c.if-table-c.true c.loop-j.invariant;
+      filled = filling-clash _ _ _ c.requires.sound c.loop-j.table c.loop-j.j (in_side outset) c.if-table-c.true c.loop-j.invariant;
     }
 
 pub overflow_cast-table : goal.overflow_cast-table
 overflow_cast-table c = omega arith
 
 pub bounds-table-c-in-loop-j : goal.bounds-table-c-in-loop-j
-bounds-table-c-in-loop-j c = omega (arith, port_in c.before.before.before.before.before.before)
+bounds-table-c-in-loop-j c =
+    let outset = c.before.before.before.before.before.before in
+    omega (arith, port_in outset)
 
 pub overflow_add-j : goal.overflow_add-j
-overflow_add-j c = omega (arith, port_in c.before.before.before.before.before.before)
+overflow_add-j c =
+    let outset = c.before.before.before.before.before.before in
+    omega (arith, port_in outset)
 
 pub loop-j-smaller : goal.loop-j-smaller
 loop-j-smaller c = omega arith
 
 pub loop-j-preserved : goal.loop-j-preserved
 loop-j-preserved c =
-    filling_step _ _ _ c.requires.sound c.loop-j.table c.loop-j.j c.requires.i_bound (in_side c.before.before.before.before.before.before) c.if-table-c.false c.loop-j.invariant
+    let outset = c.before.before.before.before.before.before in
+    filling_step _ _ _ c.requires.sound c.loop-j.table c.loop-j.j c.requires.i_bound (in_side outset) c.if-table-c.false c.loop-j.invariant
 
 pub returns : goal.returns
 returns c =

@@ -76,46 +76,62 @@ pub offset_bounds-words-b : goal.offset_bounds-words-b
 offset_bounds-words-b c = omega (arith, small c.before.before.before)
 
 pub bounds-words-b : goal.bounds-words-b
-bounds-words-b c = omega (arith, small c.before.before.before.before)
+bounds-words-b c =
+    let outset = c.before.before.before.before in
+    omega (arith, small outset)
 
 pub bounds-marks-b : goal.bounds-marks-b
-bounds-marks-b c = omega (arith, small c.before.before.before.before.before.before)
+bounds-marks-b c =
+    let outset = c.before.before.before.before.before.before in
+    omega (arith, small outset)
 
 pub overflow_add-row : goal.overflow_add-row
-overflow_add-row c = omega (arith, small c.before.before.before.before.before.before.before)
+overflow_add-row c =
+    let outset = c.before.before.before.before.before.before.before in
+    omega (arith, small outset)
 
 pub bounds-rows-row : goal.bounds-rows-row
-bounds-rows-row c = omega (arith, small c.before.before.before.before.before.before.before.before)
+bounds-rows-row c =
+    let outset = c.before.before.before.before.before.before.before.before in
+    omega (arith, small outset)
 
 pub offset_bounds-values-b : goal.offset_bounds-values-b
-offset_bounds-values-b c = omega (arith, small c.before.before.before.before.before.before.before.before.before)
+offset_bounds-values-b c =
+    let outset = c.before.before.before.before.before.before.before.before.before in
+    omega (arith, small outset)
 
 pub bounds-values-b : goal.bounds-values-b
-bounds-values-b c = omega (arith, small c.before.before.before.before.before.before.before.before.before.before)
+bounds-values-b c =
+    let outset = c.before.before.before.before.before.before.before.before.before.before in
+    omega (arith, small outset)
 
 pub forward_one-requires : goal.forward_one-requires
 forward_one-requires c =
+    let outset = c.before.before.before.before.before.before.before.before.before.before.before.before.before in
     let w = c.requires.rowed in
     let a = c.args in
-    let low = inside c.before.before.before.before.before.before.before.before.before.before.before.before.before in
+    let low = inside outset in
     let m : ℕ = m_no a.rows.now (in_kind a.lists.now a.kind c.loop-i.i) in
     let base : ℕ = base_no (in_kind a.lists.now a.kind c.loop-i.i) in
     record {
       ported = w.ported _ low;
       sized = c.loop-i.invariant.1;
-      m_value = subst (λ (k : ℕ). m_ok k m ≡ true) (same c.before.before.before.before.before.before.before.before.before.before.before.before.before) (w.sound _ low);
-      reg_value = subst (λ (k : ℕ). in_shape (kind_of k m 0 []) (reg_in a.words.now a.marks.now (in_kind a.lists.now a.kind c.loop-i.i)) ≡ true) (same c.before.before.before.before.before.before.before.before.before.before.before.before.before) (c.requires.shaped _ low);
-      apart = subst (λ (k : ℕ). Apart (λ j. port_at a.rows.now base (inputs_of k m + j)) (outputs_of k m)) (same c.before.before.before.before.before.before.before.before.before.before.before.before.before) (λ i j hi hj e. (w.outs_apart _ _ i j low low hi hj e).1);
+      m_value = subst (λ (k : ℕ). m_ok k m ≡ true) (same outset) (w.sound _ low);
+      reg_value = subst (λ (k : ℕ). in_shape (kind_of k m 0 []) (reg_in a.words.now a.marks.now (in_kind a.lists.now a.kind c.loop-i.i)) ≡ true) (same outset) (c.requires.shaped _ low);
+      apart = subst (λ (k : ℕ). Apart (λ j. port_at a.rows.now base (inputs_of k m + j)) (outputs_of k m)) (same outset) (λ i j hi hj e. (w.outs_apart _ _ i j low low hi hj e).1);
     }
 
 pub overflow_add-i : goal.overflow_add-i
-overflow_add-i c = omega (arith, few c.before.before.before.before.before.before.before.before.before.before.before.before.before.before)
+overflow_add-i c =
+    let outset = c.before.before.before.before.before.before.before.before.before.before.before.before.before.before in
+    omega (arith, few outset)
 
 pub loop-i-smaller : goal.loop-i-smaller
 loop-i-smaller c = omega arith
 
 pub loop-i-preserved : goal.loop-i-preserved
 loop-i-preserved c =
+    let outset = c.before.before.before.before.before.before.before.before.before.before.before.before.before.before in
     let l = c.loop-i in
     let a = c.args in
     let at : ℕ = in_kind a.lists.now a.kind l.i in (
@@ -124,7 +140,7 @@ loop-i-preserved c =
       λ w k rest xs mask done resting src.
           pass_more _ _ _ _ _ _ (ahead-kind a.rows.now a.values.now xs mask (reg_in a.words.now a.marks.now) a.n w a.kind _ _ k done rest resting) _ _ l.i (omega arith)
           (l.invariant.2 w k rest xs mask done resting src)
-          (ahead_same a.kind (kind_no a.rows.now at) (m_no a.rows.now at) (get_or a.values.now at 0) (same c.before.before.before.before.before.before.before.before.before.before.before.before.before.before) a.rows.now (base_no at) (mask at) (reg_in a.words.now a.marks.now at) (xs at) _ _
+          (ahead_same a.kind (kind_no a.rows.now at) (m_no a.rows.now at) (get_or a.values.now at 0) (same outset) a.rows.now (base_no at) (mask at) (reg_in a.words.now a.marks.now at) (xs at) _ _
           c.requires.kind_bound.2 (c.forward_one.ensures.by_index (xs at) (mask at))),
     )
 

@@ -49,27 +49,40 @@ pub offset_bounds-words-b : goal.offset_bounds-words-b
 offset_bounds-words-b c = omega (arith, small c.before.before.before)
 
 pub bounds-words-b : goal.bounds-words-b
-bounds-words-b c = omega (arith, small c.before.before.before.before)
+bounds-words-b c =
+    let outset = c.before.before.before.before in
+    omega (arith, small outset)
 
 pub bounds-marks-b : goal.bounds-marks-b
-bounds-marks-b c = omega (arith, small c.before.before.before.before.before.before)
+bounds-marks-b c =
+    let outset = c.before.before.before.before.before.before in
+    omega (arith, small outset)
 
 pub overflow_add-row : goal.overflow_add-row
-overflow_add-row c = omega (arith, small c.before.before.before.before.before.before.before)
+overflow_add-row c =
+    let outset = c.before.before.before.before.before.before.before in
+    omega (arith, small outset)
 
 pub bounds-rows-row : goal.bounds-rows-row
-bounds-rows-row c = omega (arith, small c.before.before.before.before.before.before.before.before)
+bounds-rows-row c =
+    let outset = c.before.before.before.before.before.before.before.before in
+    omega (arith, small outset)
 
 pub overflow_add-row-in-loop-i : goal.overflow_add-row-in-loop-i
-overflow_add-row-in-loop-i c = omega (arith, small c.before.before.before.before.before.before.before.before.before)
+overflow_add-row-in-loop-i c =
+    let outset = c.before.before.before.before.before.before.before.before.before in
+    omega (arith, small outset)
 
 pub bounds-rows-row-in-loop-i : goal.bounds-rows-row-in-loop-i
-bounds-rows-row-in-loop-i c = omega (arith, small c.before.before.before.before.before.before.before.before.before)
+bounds-rows-row-in-loop-i c =
+    let outset = c.before.before.before.before.before.before.before.before.before in
+    omega (arith, small outset)
 
 pub backward_one-requires : goal.backward_one-requires
 backward_one-requires c =
+    let outset = c.before.before.before.before.before.before.before.before.before.before.before in
     let w = c.requires.rowed in
-    let low = inside c.before.before.before.before.before.before.before.before.before.before.before in
+    let low = inside outset in
     record {
       ported = w.ported _ low;
       ready_len = c.loop-i.invariant.1;

@@ -77,41 +77,53 @@ pub offset_bounds-words-b : goal.offset_bounds-words-b
 offset_bounds-words-b c = omega (arith, small c.before.before.before)
 
 pub bounds-words-b : goal.bounds-words-b
-bounds-words-b c = omega (arith, small c.before.before.before.before)
+bounds-words-b c =
+    let outset = c.before.before.before.before in
+    omega (arith, small outset)
 
 pub bounds-marks-b : goal.bounds-marks-b
-bounds-marks-b c = omega (arith, small c.before.before.before.before.before.before)
+bounds-marks-b c =
+    let outset = c.before.before.before.before.before.before in
+    omega (arith, small outset)
 
 pub overflow_add-row : goal.overflow_add-row
-overflow_add-row c = omega (arith, small c.before.before.before.before.before.before.before)
+overflow_add-row c =
+    let outset = c.before.before.before.before.before.before.before in
+    omega (arith, small outset)
 
 pub bounds-rows-row : goal.bounds-rows-row
-bounds-rows-row c = omega (arith, small c.before.before.before.before.before.before.before.before)
+bounds-rows-row c =
+    let outset = c.before.before.before.before.before.before.before.before in
+    omega (arith, small outset)
 
 pub backward_one-requires : goal.backward_one-requires
 backward_one-requires c =
+    let outset = c.before.before.before.before.before.before.before.before.before.before in
     let w = c.requires.rowed in
     let a = c.args in
-    let low = inside c.before.before.before.before.before.before.before.before.before.before in
+    let low = inside outset in
     let at : ℕ = in_kind a.lists.now a.kind c.loop-i.i in
     let m : ℕ = m_no a.rows.now at in
     record {
       ported = w.ported _ low;
       ready_len = c.loop-i.invariant.1;
-      m_value = subst (λ (k : ℕ). m_ok k m ≡ true) (same c.before.before.before.before.before.before.before.before.before.before) (w.sound _ low);
-      reg_value = subst (λ (k : ℕ). in_shape (kind_of k m 0 []) (reg_in a.words.now a.marks.now at) ≡ true) (same c.before.before.before.before.before.before.before.before.before.before) (c.requires.shaped _ low);
-      apart = subst (λ (k : ℕ). Apart (port_at a.rows.now (base_no at)) (inputs_of k m)) (same c.before.before.before.before.before.before.before.before.before.before) (λ i j hi hj e. (w.ins_apart _ _ i j low low hi hj e).1);
-      settled = subst (λ (k : ℕ). Settled k m (reg_in a.words.now a.marks.now at) a.rows.now (base_no at) a.valid.now a.word.now) (same c.before.before.before.before.before.before.before.before.before.before) (c.requires.all_settled _ low);
+      m_value = subst (λ (k : ℕ). m_ok k m ≡ true) (same outset) (w.sound _ low);
+      reg_value = subst (λ (k : ℕ). in_shape (kind_of k m 0 []) (reg_in a.words.now a.marks.now at) ≡ true) (same outset) (c.requires.shaped _ low);
+      apart = subst (λ (k : ℕ). Apart (port_at a.rows.now (base_no at)) (inputs_of k m)) (same outset) (λ i j hi hj e. (w.ins_apart _ _ i j low low hi hj e).1);
+      settled = subst (λ (k : ℕ). Settled k m (reg_in a.words.now a.marks.now at) a.rows.now (base_no at) a.valid.now a.word.now) (same outset) (c.requires.all_settled _ low);
     }
 
 pub overflow_add-i : goal.overflow_add-i
-overflow_add-i c = omega (arith, few c.before.before.before.before.before.before.before.before.before.before.before)
+overflow_add-i c =
+    let outset = c.before.before.before.before.before.before.before.before.before.before.before in
+    omega (arith, few outset)
 
 pub loop-i-smaller : goal.loop-i-smaller
 loop-i-smaller c = omega arith
 
 pub loop-i-preserved : goal.loop-i-preserved
 loop-i-preserved c =
+    let outset = c.before.before.before.before.before.before.before.before.before.before.before in
     let l = c.loop-i in
     let a = c.args in
     let at : ℕ = in_kind a.lists.now a.kind l.i in (
@@ -120,7 +132,7 @@ loop-i-preserved c =
       λ w k rest values xs mask done resting src.
           pass_more _ _ _ _ _ _ (back-kind a.rows.now values xs mask (reg_in a.words.now a.marks.now) a.n w (sig_at a.valid.now a.word.now) a.kind _ _ k done rest resting) _ _ l.i (omega arith)
           (l.invariant.2 w k rest values xs mask done resting src)
-          (back_same a.kind (kind_no a.rows.now at) (m_no a.rows.now at) (get_or values at 0) (same c.before.before.before.before.before.before.before.before.before.before.before) a.rows.now (base_no at) (mask at) (reg_in a.words.now a.marks.now at) (xs at) (sig_at a.valid.now a.word.now) _ _
+          (back_same a.kind (kind_no a.rows.now at) (m_no a.rows.now at) (get_or values at 0) (same outset) a.rows.now (base_no at) (mask at) (reg_in a.words.now a.marks.now at) (xs at) (sig_at a.valid.now a.word.now) _ _
           c.requires.kind_bound.2 (c.backward_one.ensures.by_index (get_or values at 0) (xs at) (mask at))),
     )
 

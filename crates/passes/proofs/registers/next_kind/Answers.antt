@@ -90,55 +90,73 @@ pub offset_bounds-words-b : goal.offset_bounds-words-b
 offset_bounds-words-b c = omega (arith, small c.before.before.before)
 
 pub bounds-words-b : goal.bounds-words-b
-bounds-words-b c = omega (arith, small c.before.before.before.before)
+bounds-words-b c =
+    let outset = c.before.before.before.before in
+    omega (arith, small outset)
 
 pub bounds-marks-b : goal.bounds-marks-b
-bounds-marks-b c = omega (arith, small c.before.before.before.before.before.before)
+bounds-marks-b c =
+    let outset = c.before.before.before.before.before.before in
+    omega (arith, small outset)
 
 pub overflow_add-row : goal.overflow_add-row
-overflow_add-row c = omega (arith, small c.before.before.before.before.before.before.before)
+overflow_add-row c =
+    let outset = c.before.before.before.before.before.before.before in
+    omega (arith, small outset)
 
 pub bounds-rows-row : goal.bounds-rows-row
-bounds-rows-row c = omega (arith, small c.before.before.before.before.before.before.before.before)
+bounds-rows-row c =
+    let outset = c.before.before.before.before.before.before.before.before in
+    omega (arith, small outset)
 
 pub next_one-next-requires : goal.next_one-next-requires
 next_one-next-requires c =
+    let outset = c.before.before.before.before.before.before.before.before.before in
     let l = c.loop-i in
     let a = c.args in
     let w = c.requires.rowed in
-    let low = inside c.before.before.before.before.before.before.before.before.before in
+    let low = inside outset in
     let at : ℕ = in_kind a.lists.now a.kind l.i in
     let m : ℕ = m_no a.rows.now at in
-    let still : reg_in l.words l.marks at ≡ reg_in a.words.now a.marks.now at = l.invariant.4 at (fresh c.before.before.before.before.before.before.before.before.before) in
-    let s = c.requires.by_index at low ((list c.before.before.before.before.before.before.before.before.before).each l.i (omega arith)).1 in
+    let still : reg_in l.words l.marks at ≡ reg_in a.words.now a.marks.now at = l.invariant.4 at (fresh outset) in
+    let s = c.requires.by_index at low ((list outset).each l.i (omega arith)).1 in
     record {
       ported = w.ported at low;
-      m_value = subst (λ (k : ℕ). m_ok k m ≡ true) (same c.before.before.before.before.before.before.before.before.before) (w.sound at low);
-      reg_value = subst (λ (r : Reg). in_shape (kind_of a.kind m 0 []) r ≡ true) (sym still) (subst (λ (k : ℕ). in_shape (kind_of k m 0 []) (reg_in a.words.now a.marks.now at) ≡ true) (same c.before.before.before.before.before.before.before.before.before) s.shape);
-      settled = subst (λ (r : Reg). Settled a.kind m r a.rows.now (base_no at) a.valid.now a.word.now) (sym still) (subst (λ (k : ℕ). Settled k m (reg_in a.words.now a.marks.now at) a.rows.now (base_no at) a.valid.now a.word.now) (same c.before.before.before.before.before.before.before.before.before) s.settled);
+      m_value = subst (λ (k : ℕ). m_ok k m ≡ true) (same outset) (w.sound at low);
+      reg_value = subst (λ (r : Reg). in_shape (kind_of a.kind m 0 []) r ≡ true) (sym still) (subst (λ (k : ℕ). in_shape (kind_of k m 0 []) (reg_in a.words.now a.marks.now at) ≡ true) (same outset) s.shape);
+      settled = subst (λ (r : Reg). Settled a.kind m r a.rows.now (base_no at) a.valid.now a.word.now) (sym still) (subst (λ (k : ℕ). Settled k m (reg_in a.words.now a.marks.now at) a.rows.now (base_no at) a.valid.now a.word.now) (same outset) s.settled);
     }
 
 pub offset_bounds-words-b-in-loop-i : goal.offset_bounds-words-b-in-loop-i
-offset_bounds-words-b-in-loop-i c = omega (arith, small c.before.before.before.before.before.before.before.before.before.before)
+offset_bounds-words-b-in-loop-i c =
+    let outset = c.before.before.before.before.before.before.before.before.before.before in
+    omega (arith, small outset)
 
 pub bounds-words-b-in-loop-i : goal.bounds-words-b-in-loop-i
-bounds-words-b-in-loop-i c = omega (arith, small c.before.before.before.before.before.before.before.before.before.before, c.loop-i.invariant.1)
+bounds-words-b-in-loop-i c =
+    let outset = c.before.before.before.before.before.before.before.before.before.before in
+    omega (arith, small outset, c.loop-i.invariant.1)
 
 pub bounds-marks-b-in-loop-i : goal.bounds-marks-b-in-loop-i
-bounds-marks-b-in-loop-i c = omega (arith, small c.before.before.before.before.before.before.before.before.before.before, c.loop-i.invariant.2)
+bounds-marks-b-in-loop-i c =
+    let outset = c.before.before.before.before.before.before.before.before.before.before in
+    omega (arith, small outset, c.loop-i.invariant.2)
 
 pub overflow_add-i : goal.overflow_add-i
-overflow_add-i c = omega (arith, few c.before.before.before.before.before.before.before.before.before.before)
+overflow_add-i c =
+    let outset = c.before.before.before.before.before.before.before.before.before.before in
+    omega (arith, few outset)
 
 pub loop-i-smaller : goal.loop-i-smaller
 loop-i-smaller c = omega arith
 
 pub loop-i-preserved : goal.loop-i-preserved
 loop-i-preserved c =
+    let outset = c.before.before.before.before.before.before.before.before.before.before in
     let l = c.loop-i in
     let a = c.args in
     let w = c.requires.rowed in
-    let low = inside c.before.before.before.before.before.before.before.before.before.before in
+    let low = inside outset in
     let at : ℕ = in_kind a.lists.now a.kind l.i in
     let m : ℕ = m_no a.rows.now at in
     let next = c.next_one-next.result in (
@@ -148,10 +166,10 @@ loop-i-preserved c =
       λ values xs mask.
           below_more (λ k. reg_in (set l.words at next.word) (set l.marks at next.marks) (in_kind a.lists.now a.kind k)
           ≡ next_no a.rows.now values xs mask (reg_in a.words.now a.marks.now) (sig_at a.valid.now a.word.now) (ready_at a.ready.now) (in_kind a.lists.now a.kind k)) l.i
-          (λ k lk. regs_there l.words l.marks at next (in_kind a.lists.now a.kind k) (λ e. fresh c.before.before.before.before.before.before.before.before.before.before k lk e) ∙ l.invariant.3 values xs mask k lk)
-          (regs_here l.words l.marks at next l.invariant.1 l.invariant.2 (small c.before.before.before.before.before.before.before.before.before.before) ∙ c.next_one-next.ensures (get_or values at 0) (xs at)
-          ∙ ap (λ (r : Reg). next_here (kind_of a.kind m (get_or values at 0) (xs at)) r a.rows.now (base_no at) (sig_at a.valid.now a.word.now) (ready_at a.ready.now)) (l.invariant.4 at (fresh c.before.before.before.before.before.before.before.before.before.before))
-          ∙ ap (λ (k : ℕ). next_here (kind_of k m (get_or values at 0) (xs at)) (reg_in a.words.now a.marks.now at) a.rows.now (base_no at) (sig_at a.valid.now a.word.now) (ready_at a.ready.now)) (sym (same c.before.before.before.before.before.before.before.before.before.before))
+          (λ k lk. regs_there l.words l.marks at next (in_kind a.lists.now a.kind k) (λ e. fresh outset k lk e) ∙ l.invariant.3 values xs mask k lk)
+          (regs_here l.words l.marks at next l.invariant.1 l.invariant.2 (small outset) ∙ c.next_one-next.ensures (get_or values at 0) (xs at)
+          ∙ ap (λ (r : Reg). next_here (kind_of a.kind m (get_or values at 0) (xs at)) r a.rows.now (base_no at) (sig_at a.valid.now a.word.now) (ready_at a.ready.now)) (l.invariant.4 at (fresh outset))
+          ∙ ap (λ (k : ℕ). next_here (kind_of k m (get_or values at 0) (xs at)) (reg_in a.words.now a.marks.now at) a.rows.now (base_no at) (sig_at a.valid.now a.word.now) (ready_at a.ready.now)) (sym (same outset))
           ∙ next_here_lem a.rows.now values xs mask (reg_in a.words.now a.marks.now) a.n w at low (sig_at a.valid.now a.word.now) (ready_at a.ready.now)),
       λ b h. regs_there l.words l.marks at next b (λ e. h l.i (omega arith) (sym e)) ∙ l.invariant.4 b (λ k lk. h k (omega arith)),
     )

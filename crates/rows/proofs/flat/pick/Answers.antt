@@ -40,7 +40,9 @@ pub overflow_add-b : goal.overflow_add-b
 overflow_add-b c = omega (arith, small c.before.before.before)
 
 pub bounds-rows-b : goal.bounds-rows-b
-bounds-rows-b c = omega (arith, small c.before.before.before.before)
+bounds-rows-b c =
+    let outset = c.before.before.before.before in
+    omega (arith, small outset)
 
 pub overflow_add-count : goal.overflow_add-count
 overflow_add-count c =

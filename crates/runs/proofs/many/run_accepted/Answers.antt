@@ -69,7 +69,9 @@ abbrev trace : Start → List ℕ
 trace c = c.args.trace.now
 
 abbrev start : After-flatten → Start
-start c = c.before.before.before.before.before.before.before.before.before.before.before
+start c =
+    let outset = c.before.before.before.before.before.before.before.before.before.before.before in
+    outset
 
 abbrev rows : After-flatten → List ℕ
 rows c = c.flatten.new.rows
@@ -81,7 +83,9 @@ abbrev flat-shape : After-shape_ok → After-flatten
 flat-shape c = c.before.before
 
 abbrev shape_fit : After-ends_fit → Else-not-shape_ok
-shape_fit c = c.before.before.before.before.before
+shape_fit c =
+    let outset = c.before.before.before.before.before in
+    outset
 
 abbrev flat_fit : After-ends_fit → After-flatten
 flat_fit c = flat-shape (shape_fit c).before
@@ -127,14 +131,17 @@ works : (c : Else-state-count-gt1048576) → (
     (masks (start (flat-count c.before.before.before))) ≡ 0
     )
 works c =
+    let later = c.before.before.before.before in
+    let outset = later.before in
     let s = start (flat-count c.before.before.before) in
-    earns-none (net s) (state s) (words s) (ends s) (masks s) (trace s) s.requires.net_value (shaped (shape_fit c.before.before.before.before.before)) (fits c.before.before.before.before) (even c.before.before)
+    earns-none (net s) (state s) (words s) (ends s) (masks s) (trace s) s.requires.net_value (shaped (shape_fit outset)) (fits later) (even c.before.before)
     (omega (arith, c.if-state-count-gt1048576.false, c.numbers_in-count.ensures))
 
 pub flatten-requires : goal.flatten-requires
 flatten-requires c =
+    let outset = c.before.before.before.before.before.before.before.before.before.before.before in
     record {
-      n_bound = size-high (net c.before.before.before.before.before.before.before.before.before.before.before) c.requires.promises.fields;
+      n_bound = size-high (net outset) c.requires.promises.fields;
       rows_len = refl;
       values_len = refl;
     }
@@ -168,40 +175,52 @@ returns-then-not-ends_fit c =
 
 pub returns-then-count-eq1 : goal.returns-then-count-eq1
 returns-then-count-eq1 c =
+    let later = c.before.before.before.before in
+    let outset = later.before in
     let s = start (flat-count c.before.before.before) in
     let odd = subst (λ (k : ℕ). k % 2 ≡ 1) c.numbers_in-count.ensures c.if-count-eq1.true in
     let all = refused_by (net s) (state s) (words s) (ends s) (masks s) (trace s) 15
-    (earns-15 (net s) (state s) (words s) (ends s) (masks s) (trace s) s.requires.net_value (shaped (shape_fit c.before.before.before.before.before)) (fits c.before.before.before.before) odd)
+    (earns-15 (net s) (state s) (words s) (ends s) (masks s) (trace s) s.requires.net_value (shaped (shape_fit outset)) (fits later) odd)
     (λ z. omega (arith, z)) _ c.refused-then-count-eq1.ensures in
     record { value = all.0; trace_after = all.1 }
 
 pub returns-then-state-count-gt1048576 : goal.returns-then-state-count-gt1048576
 returns-then-state-count-gt1048576 c =
-    let s = start (flat-count c.before.before.before.before.before) in
+    let back-1 = c.before.before.before.before in
+    let back-2 = back-1.before in
+    let back-3 = back-2.before in
+    let back-4 = back-3.before in
+    let s = start (flat-count back-2) in
     let all = refused_by (net s) (state s) (words s) (ends s) (masks s) (trace s) 16
-    (earns-16 (net s) (state s) (words s) (ends s) (masks s) (trace s) s.requires.net_value (shaped (shape_fit c.before.before.before.before.before.before.before)) (fits c.before.before.before.before.before.before) (even c.before.before.before.before)
+    (earns-16 (net s) (state s) (words s) (ends s) (masks s) (trace s) s.requires.net_value (shaped (shape_fit back-4)) (fits back-3) (even back-1)
     (omega (arith, c.if-state-count-gt1048576.true, c.numbers_in-count.ensures)))
     (λ z. omega (arith, z)) _ c.refused-then-state-count-gt1048576.ensures in
     record { value = all.0; trace_after = all.1 }
 
 pub run_cycles-requires : goal.run_cycles-requires
 run_cycles-requires c =
-    let s = start (flat-count c.before.before.before.before.before.before.before) in
+    let back-1 = c.before.before.before.before.before.before in
+    let back-2 = back-1.before in
+    let back-3 = back-2.before in
+    let back-4 = back-3.before in
+    let s = start (flat-count back-2) in
     let kinds = c.sort_kinds-sorted.ensures in
-    let shape = shaped (shape_fit c.before.before.before.before.before.before.before.before.before) in
+    let shape = shaped (shape_fit back-4) in
     record {
       promises = s.requires.promises;
       net_value = s.requires.net_value;
-      flat = (flat-count c.before.before.before.before.before.before.before).flatten.ensures;
+      flat = (flat-count back-2).flatten.ensures;
       kinds = kinds;
       state_value = (shape, c.if-state-count-gt1048576.false);
-      ends_value = fits c.before.before.before.before.before.before.before.before;
-      masks_len = two_each c.before.before.before.before.before.before;
+      ends_value = fits back-3;
+      masks_len = two_each back-1;
     }
 
 pub returns : goal.returns
 returns c =
-    let s = start (flat-count c.before.before.before.before.before.before.before.before.before.before) in
-    let all = works_by (net s) (state s) (words s) (ends s) (masks s) (trace s) (works c.before.before.before.before.before.before.before) c.numbers_in-count.result c.numbers_in-count.ensures
+    let later = c.before.before.before.before.before.before.before in
+    let outset = later.before.before.before in
+    let s = start (flat-count outset) in
+    let all = works_by (net s) (state s) (words s) (ends s) (masks s) (trace s) (works later) c.numbers_in-count.result c.numbers_in-count.ensures
     c.run_cycles.result c.run_cycles.new.trace c.run_cycles.ensures.value c.run_cycles.ensures.trace_after in
     record { value = all.0; trace_after = all.1 }

@@ -93,11 +93,15 @@ rear-whole c = back-of (net c) (rows c) (values c) c.requires.flat c.requires.pr
 
 -- ## The places in the loop
 abbrev start : At-loop-i → Start
-start c = c.before.before.before.before.before.before.before.before.before.before.before.before.before.before.before.before.before.before.before.before.before
+start c =
+    let outset = c.before.before.before.before.before.before.before.before.before.before.before.before.before.before.before.before.before.before.before.before.before in
+    outset
 
 -- the body's beginning, from the arguments of its call of `cycle`
 abbrev body : After-list-1 → In-loop-i
-body c = c.before.before.before.before.before.before.before.before.before.before.before.before.before.before
+body c =
+    let outset = c.before.before.before.before.before.before.before.before.before.before.before.before.before.before in
+    outset
 
 inside : (c : In-loop-i) → c.loop-i.i < (start c.before).args.n
 inside c = omega arith
@@ -194,22 +198,25 @@ after_cycle c =
 
 pub pick-ahead-requires : goal.pick-ahead-requires
 pick-ahead-requires c =
+    let outset = c.before.before.before.before.before.before.before.before.before.before.before.before in
     record {
-      rowed = rows-sound c.before.before.before.before.before.before.before.before.before.before.before.before;
-      order = (forth-whole c.before.before.before.before.before.before.before.before.before.before.before.before).list;
+      rowed = rows-sound outset;
+      order = (forth-whole outset).list;
     }
 
 pub pick-behind-requires : goal.pick-behind-requires
 pick-behind-requires c =
+    let outset = c.before.before.before.before.before.before.before.before.before.before.before.before.before.before in
     record {
-      rowed = rows-sound c.before.before.before.before.before.before.before.before.before.before.before.before.before.before;
-      order = (rear-whole c.before.before.before.before.before.before.before.before.before.before.before.before.before.before).list;
+      rowed = rows-sound outset;
+      order = (rear-whole outset).list;
     }
 
 pub loop-i-init : goal.loop-i-init
 loop-i-init c =
-    let long = state-long c.before.before.before.before.before.before.before.before.before.before.before.before.before.before.before.before.before.before.before.before.before in (
-      going_begins (net c.before.before.before.before.before.before.before.before.before.before.before.before.before.before.before.before.before.before.before.before.before) (state c.before.before.before.before.before.before.before.before.before.before.before.before.before.before.before.before.before.before.before.before.before) (words c.before.before.before.before.before.before.before.before.before.before.before.before.before.before.before.before.before.before.before.before.before) (ends c.before.before.before.before.before.before.before.before.before.before.before.before.before.before.before.before.before.before.before.before.before) (masks c.before.before.before.before.before.before.before.before.before.before.before.before.before.before.before.before.before.before.before.before.before) (trace₀ c.before.before.before.before.before.before.before.before.before.before.before.before.before.before.before.before.before.before.before.before.before) c.requires.state_value.0 long.0 long.1,
+    let outset = c.before.before.before.before.before.before.before.before.before.before.before.before.before.before.before.before.before.before.before.before.before in
+    let long = state-long outset in (
+      going_begins (net outset) (state outset) (words outset) (ends outset) (masks outset) (trace₀ outset) c.requires.state_value.0 long.0 long.1,
       omega arith,
       record { valids = refl; words = refl },
       refl,
@@ -232,10 +239,14 @@ pub number_in-ready-requires : goal.number_in-ready-requires
 number_in-ready-requires c = omega (arith, two_each (start c.before.before.before))
 
 pub overflow_cast-i : goal.overflow_cast-i
-overflow_cast-i c = omega (arith, in_range (start c.before.before.before.before.before.before.before.before.before))
+overflow_cast-i c =
+    let outset = c.before.before.before.before.before.before.before.before.before in
+    omega (arith, in_range (start outset))
 
 pub overflow_add-state : goal.overflow_add-state
-overflow_add-state c = omega (arith, in_range (start c.before.before.before.before.before.before.before.before.before.before))
+overflow_add-state c =
+    let outset = c.before.before.before.before.before.before.before.before.before.before in
+    omega (arith, in_range (start outset))
 
 pub overflow_mul-used : goal.overflow_mul-used
 overflow_mul-used c = omega (arith, in_range (start (body c.before).before), (body c.before).loop-i.invariant.0.few)
@@ -267,44 +278,67 @@ cycle-k-requires c =
     }
 
 pub overflow_cast-stopped : goal.overflow_cast-stopped
-overflow_cast-stopped c = omega (arith, inside (body c.before.before.before.before.before.before), in_range (start (at_loop c.before.before.before.before)))
+overflow_cast-stopped c =
+    let later = c.before.before.before.before in
+    let outset = later.before.before in
+    omega (arith, inside (body outset), in_range (start (at_loop later)))
 
 pub overflow_add-stopped : goal.overflow_add-stopped
-overflow_add-stopped c = omega (arith, inside (body c.before.before.before.before.before.before.before), in_range (start (at_loop c.before.before.before.before.before)))
+overflow_add-stopped c =
+    let later = c.before.before.before.before.before in
+    let outset = later.before.before in
+    omega (arith, inside (body outset), in_range (start (at_loop later)))
 
 pub overflow_cast-i-then-k-eq129 : goal.overflow_cast-i-then-k-eq129
-overflow_cast-i-then-k-eq129 c = omega (arith, inside (body c.before.before.before.before.before.before.before), in_range (start (at_loop c.before.before.before.before.before)))
+overflow_cast-i-then-k-eq129 c =
+    let later = c.before.before.before.before.before in
+    let outset = later.before.before in
+    omega (arith, inside (body outset), in_range (start (at_loop later)))
 
 pub overflow_cast-used : goal.overflow_cast-used
 overflow_cast-used c =
-    let l = at_loop c.before.before.before.before.before in
-    omega (arith, inside (body c.before.before.before.before.before.before.before), in_range (start l), l.loop-i.invariant.0.few)
+    let later = c.before.before.before.before.before in
+    let outset = later.before.before in
+    let l = at_loop later in
+    omega (arith, inside (body outset), in_range (start l), l.loop-i.invariant.0.few)
 
 pub shape_of-trace-then-k-eq129 : goal.shape_of-trace-then-k-eq129
-shape_of-trace-then-k-eq129 c = (after_cycle c.before.before.before.before.before.before).long c.if-k-eq129.true
+shape_of-trace-then-k-eq129 c =
+    let outset = c.before.before.before.before.before.before in
+    (after_cycle outset).long c.if-k-eq129.true
 
 pub returns-then-k-eq129 : goal.returns-then-k-eq129
 returns-then-k-eq129 c =
+    let outset = c.before.before.before.before.before.before in
     let full = c.if-k-eq129.true in
     record {
-      value = (after_cycle c.before.before.before.before.before.before).answered full _ c.answer.ensures;
-      trace_after = (after_cycle c.before.before.before.before.before.before).left full;
+      value = (after_cycle outset).answered full _ c.answer.ensures;
+      trace_after = (after_cycle outset).left full;
     }
 
 pub overflow_add-used : goal.overflow_add-used
 overflow_add-used c =
-    omega (arith, ((after_cycle c.before.before.before.before).goes c.if-k-eq129.false).few, inside (body c.before.before.before.before.before.before), in_range (start (at_loop c.before.before.before.before)))
+    let later = c.before.before.before.before in
+    let outset = later.before.before in
+    omega (arith, ((after_cycle later).goes c.if-k-eq129.false).few, inside (body outset), in_range (start (at_loop later)))
 
 pub overflow_add-i-in-loop-i : goal.overflow_add-i-in-loop-i
-overflow_add-i-in-loop-i c = omega (arith, inside (body c.before.before.before.before.before.before), in_range (start (at_loop c.before.before.before.before)))
+overflow_add-i-in-loop-i c =
+    let later = c.before.before.before.before in
+    let outset = later.before.before in
+    omega (arith, inside (body outset), in_range (start (at_loop later)))
 
 pub loop-i-smaller : goal.loop-i-smaller
-loop-i-smaller c = omega (arith, inside (body c.before.before.before.before.before.before))
+loop-i-smaller c =
+    let outset = c.before.before.before.before.before.before in
+    omega (arith, inside (body outset))
 
 pub loop-i-preserved : goal.loop-i-preserved
 loop-i-preserved c =
+    let later = c.before.before.before.before in
+    let outset = later.before.before in
     let kept = c.cycle-k.ensures.sized_2 in
-    ((after_cycle c.before.before.before.before).goes c.if-k-eq129.false, omega (arith, inside (body c.before.before.before.before.before.before)), kept.0, kept.1, kept.2)
+    ((after_cycle later).goes c.if-k-eq129.false, omega (arith, inside (body outset)), kept.0, kept.1, kept.2)
 
 pub overflow_cast-after : goal.overflow_cast-after
 overflow_cast-after c = omega (arith, in_range (start c.before.before))
@@ -319,11 +353,14 @@ pub overflow_cast-used-2 : goal.overflow_cast-used-2
 overflow_cast-used-2 c = omega (arith, in_range (start c.before.before.before), c.loop-i.invariant.0.few)
 
 pub shape_of-trace : goal.shape_of-trace
-shape_of-trace c = trace-long c.before.before.before.before
+shape_of-trace c =
+    let outset = c.before.before.before.before in
+    trace-long outset
 
 pub returns : goal.returns
 returns c =
-    let s = start c.before.before.before.before in
+    let outset = c.before.before.before.before in
+    let s = start outset in
     let all = ended c.before.before.before in
     record {
       value = answer-done (net s) (state s) (words s) (ends s) (masks s) (trace₀ s) c.loop-i.i c.loop-i.used c.loop-i.words c.loop-i.marks c.loop-i.trace c.loop-i.invariant.0 s.args.n all _

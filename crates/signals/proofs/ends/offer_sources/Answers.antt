@@ -46,26 +46,35 @@ pub number_in-end-requires : goal.number_in-end-requires
 number_in-end-requires c = omega (arith, c.requires.fitting.each)
 
 pub offset_bounds-words-b : goal.offset_bounds-words-b
-offset_bounds-words-b c = omega (arith, small c.before.before.before.before)
+offset_bounds-words-b c =
+    let outset = c.before.before.before.before in
+    omega (arith, small outset)
 
 pub bounds-words-b : goal.bounds-words-b
-bounds-words-b c = omega (arith, small c.before.before.before.before.before)
+bounds-words-b c =
+    let outset = c.before.before.before.before.before in
+    omega (arith, small outset)
 
 pub bounds-marks-b : goal.bounds-marks-b
-bounds-marks-b c = omega (arith, small c.before.before.before.before.before.before.before)
+bounds-marks-b c =
+    let outset = c.before.before.before.before.before.before.before in
+    omega (arith, small outset)
 
 pub overflow_mul-b : goal.overflow_mul-b
-overflow_mul-b c = omega (arith, small c.before.before.before.before.before.before.before.before)
+overflow_mul-b c =
+    let outset = c.before.before.before.before.before.before.before.before in
+    omega (arith, small outset)
 
 pub offer_one-requires : goal.offer_one-requires
 offer_one-requires c =
+    let outset = c.before.before.before.before.before.before.before.before.before.before in
     let a = c.args in
     let m = c.requires.among in
     let l = c.loop-k in
     let f = c.requires.fitting in
     let e = c.number_in-end.ensures in
     record {
-      ported = m.rowed.ported _ (inside c.before.before.before.before.before.before.before.before.before.before);
+      ported = m.rowed.ported _ (inside outset);
       sized = l.invariant.3;
       start_le_end = (subst (λ (x : ℕ). l.start ≤ x) (sym e) (rw l.invariant.2 (f.up l.k (omega arith))), subst (λ (x : ℕ). x ≤ length (given a.bytes.now a.stream.now)) (sym e) (f.within l.k (omega arith)));
     }

@@ -45,9 +45,10 @@ overflow_mul-b c = omega (arith, small c.before.before.before)
 
 pub ready_port-requires : goal.ready_port-requires
 ready_port-requires c =
+    let outset = c.before.before.before.before in
     let m = c.requires.among in
     record {
-      ported = m.rowed.ported _ (inside c.before.before.before.before);
+      ported = m.rowed.ported _ (inside outset);
       ready_len = c.loop-k.invariant.2;
       i_bound = omega arith;
     }

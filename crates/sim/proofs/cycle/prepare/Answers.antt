@@ -41,14 +41,18 @@ abbrev laid_values : After-flatten → List ℕ
 laid_values c = c.flatten.new.values
 
 abbrev start : After-flatten → Start
-start c = c.before.before.before.before.before.before
+start c =
+    let outset = c.before.before.before.before.before.before in
+    outset
 
 -- the same place, seen from after each of the tests
 abbrev laid_at : After-shape_ok → After-flatten
 laid_at c = c.before.before
 
 abbrev laid_before : After-ends_fit → After-flatten
-laid_before c = laid_at c.before.before.before.before.before
+laid_before c =
+    let outset = c.before.before.before.before.before in
+    laid_at outset
 
 rows_hold : (c : After-flatten) → Rowed (laid_rows c) (start c).args.net.size
 rows_hold c =
@@ -99,9 +103,10 @@ bounds-sorted-0 c = omega arith
 
 pub returns-then-not-ends_fit : goal.returns-then-not-ends_fit
 returns-then-not-ends_fit c =
+    let outset = c.before.before.before.before.before.before.before in
     let laid = laid_before c.before.before in
     let given = (start laid).args in
-    let shape = state-tested c.before.before.before.before.before.before.before ∙ c.if-not-shape_ok.false in
+    let shape = state-tested outset ∙ c.if-not-shape_ok.false in
     record {
       flat = laid.flatten.ensures;
       kinds = c.sort_kinds-sorted.ensures;
@@ -110,9 +115,10 @@ returns-then-not-ends_fit c =
 
 pub returns : goal.returns
 returns c =
+    let outset = c.before.before.before.before.before.before.before in
     let laid = laid_before c.before.before in
     let given = (start laid).args in
-    let shape = state-tested c.before.before.before.before.before.before.before ∙ c.if-not-shape_ok.false in
+    let shape = state-tested outset ∙ c.if-not-shape_ok.false in
     record {
       flat = laid.flatten.ensures;
       kinds = c.sort_kinds-sorted.ensures;

@@ -19,7 +19,9 @@ Start = lts.Start tie.the-claims reads.Pre reads.Post tie.handed_clauses
 
 -- what the call is given
 abbrev start : After-prepare-laid → Start
-start c = c.before.before.before.before.before
+start c =
+    let outset = c.before.before.before.before.before in
+    outset
 
 -- the state is in shape and the ends fit, where the tests have passed
 fits : (c : After-prepare-laid) → c.prepare-laid.result.refusal ≡ 0
@@ -38,23 +40,26 @@ prepare-laid-requires c =
 
 pub returns-then-laid-ne0 : goal.returns-then-laid-ne0
 returns-then-laid-ne0 c =
-    let given = (start c.before.before.before.before).args in
+    let outset = c.before.before.before.before in
+    let given = (start outset).args in
     c.refused.ensures
     ∙ refused-tested given.net given.state given.stream.now given.ends.now given.offer given.ready c.prepare-laid.result.refusal c.prepare-laid.ensures.tested
     c.if-laid-ne0.true
 
 pub returns-then-state-ge1048576 : goal.returns-then-state-ge1048576
 returns-then-state-ge1048576 c =
-    let given = (start c.before.before.before.before.before.before).args in
-    let ok = fits c.before.before.before.before.before.before c.if-laid-ne0.false in
+    let outset = c.before.before.before.before.before.before in
+    let given = (start outset).args in
+    let ok = fits outset c.if-laid-ne0.false in
     c.refused-then-state-ge1048576.ensures
     ∙ refused-16 given.net given.state given.stream.now given.ends.now given.offer given.ready ok.0 ok.1 c.if-state-ge1048576.true
 
 pub work-requires : goal.work-requires
 work-requires c =
-    let ok = fits c.before.before.before.before.before.before.before.before c.if-laid-ne0.false in
+    let outset = c.before.before.before.before.before.before.before.before in
+    let ok = fits outset c.if-laid-ne0.false in
     record {
-      promises = (start c.before.before.before.before.before.before.before.before).requires;
+      promises = (start outset).requires;
       flat = c.prepare-laid.ensures.flat;
       kinds = c.prepare-laid.ensures.kinds;
       state_value = (ok.0, c.if-state-ge1048576.false);
@@ -63,7 +68,8 @@ work-requires c =
 
 pub returns : goal.returns
 returns c =
-    let given = (start c.before.before.before.before.before.before.before.before.before).args in
-    let ok = fits c.before.before.before.before.before.before.before.before.before c.if-laid-ne0.false in
+    let outset = c.before.before.before.before.before.before.before.before.before in
+    let given = (start outset).args in
+    let ok = fits outset c.if-laid-ne0.false in
     c.work.ensures
     ∙ not-refused given.net given.state given.stream.now given.ends.now given.offer given.ready ok.0 ok.1 c.if-state-ge1048576.false

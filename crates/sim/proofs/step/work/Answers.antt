@@ -34,7 +34,8 @@ laid c =
 
 pub signals_in-requires : goal.signals_in-requires
 signals_in-requires c =
-    let start = c.before.before.before.before.before.before.before.before.before.before.before.before.before.before.before.before.before.before.before in
+    let outset = c.before.before.before.before.before.before.before.before.before.before.before.before.before.before.before.before.before.before.before in
+    let start = outset in
     record {
       given = laid start;
       sized = (record { valids = refl; words = refl }, refl);
@@ -46,7 +47,8 @@ moves_of-moved-requires c =
 
 pub registers-requires : goal.registers-requires
 registers-requires c =
-    let start = c.before.before.before.before.before.before.before.before.before.before.before.before.before.before.before.before.before.before.before.before.before.before.before.before.before.before.before.before.before.before.before.before in
+    let outset = c.before.before.before.before.before.before.before.before.before.before.before.before.before.before.before.before.before.before.before.before.before.before.before.before.before.before.before.before.before.before.before.before in
+    let start = outset in
     record {
       rowed = (laid start).rowed;
       kinds = (laid start).kinds;

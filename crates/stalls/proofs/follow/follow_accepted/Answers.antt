@@ -20,7 +20,9 @@ Start = lts.Start tie.the-claims reads.Pre reads.Post tie.handed_clauses
 
 -- what the call is given
 abbrev start : After-prepare-laid → Start
-start c = c.before.before.before.before.before
+start c =
+    let outset = c.before.before.before.before.before in
+    outset
 
 -- the state is in shape and the ends fit, where the tests have passed
 fits : (c : After-prepare-laid) → c.prepare-laid.result.refusal ≡ 0
@@ -46,14 +48,16 @@ returns-then-laid-ne0 c =
 
 pub returns-then-net-channel : goal.returns-then-net-channel
 returns-then-net-channel c =
-    let prepared = c.before.before.before.before.before.before in
+    let outset = c.before.before.before.before.before.before in
+    let prepared = outset in
     let given = c.args in
     let ok = fits prepared c.if-laid-ne0.false in
     c.no_chain-then-net-channel.ensures ∙ refused-24 given.net given.state given.stream.now given.ends.now given.offer given.ready given.channel ok.0 ok.1 c.if-net-channel.true
 
 pub work-requires : goal.work-requires
 work-requires c =
-    let prepared = c.before.before.before.before.before.before.before.before in
+    let outset = c.before.before.before.before.before.before.before.before in
+    let prepared = outset in
     record {
       promises = c.requires;
       flat = c.prepare-laid.ensures.flat;
@@ -64,7 +68,8 @@ work-requires c =
 
 pub returns : goal.returns
 returns c =
-    let prepared = c.before.before.before.before.before.before.before.before.before in
+    let outset = c.before.before.before.before.before.before.before.before.before in
+    let prepared = outset in
     let given = c.args in
     let ok = fits prepared c.if-laid-ne0.false in
     c.work.ensures ∙ not-refused given.net given.state given.stream.now given.ends.now given.offer given.ready given.channel ok.0 ok.1 c.if-net-channel.false
