@@ -8,7 +8,6 @@ ghost use Rattle.std.specs.Prelude.{◌≡◌, ◌+◌, ◌*◌, ◌≤◌, ◌<
 
 use bays::{BayStepped, Bays};
 use cycles::State;
-use libc::STDOUT_FILENO;
 use nets::Net;
 use trace::numbers::number_at;
 
@@ -46,66 +45,61 @@ struct Trial {
     panel: Panel,
 }
 
-fn print(text: &[u8], n: u64) {
-    io::write_all(STDOUT_FILENO, text);
-    io::print_decimal(STDOUT_FILENO, n);
+// Prints a text and a number. A write that fails is passed over.
+fn print(rt: &impl Print, text: &str, n: u64) {
+    let _ = print!(rt; "{text}{n}");
 }
 
-fn print_word(text: &[u8], w: u32) {
-    print(text, w as u64);
+fn print_word(rt: &impl Print, text: &str, w: u32) {
+    print(rt, text, w as u64);
 }
 
-fn print_byte(text: &[u8], b: u8) {
-    print(text, b as u64);
+fn print_byte(rt: &impl Print, text: &str, b: u8) {
+    print(rt, text, b as u64);
 }
 
-fn end_line() {
-    io::write_all(STDOUT_FILENO, b"\n");
+fn end_line(rt: &impl Print) {
+    let _ = println!(rt);
 }
 
 // Prints the refusal of a bay's step, and channel and word of each delivery.
-fn show(stepped: BayStepped) {
-    print_byte(b": refusal ", stepped.refusal);
-    let mut c: usize = 0;
-    while c < 128 {
+fn show(rt: &impl Print, stepped: BayStepped) {
+    print_byte(rt, ": refusal ", stepped.refusal);
+    for c in 0..128 {
         if stepped.delivered[c] == 1 {
-            print(b" ", c as u64);
-            print_word(b"=", stepped.words[c]);
+            print(rt, " ", c as u64);
+            print_word(rt, "=", stepped.words[c]);
         }
-        c += 1;
     }
-    end_line();
+    end_line(rt);
 }
 
 // Prints a bay's count, and the registers of the blocks that have some.
-fn show_state(k: u64, state: State) {
-    print(b"state ", k);
-    print_word(b" count ", state.count);
-    let mut b: usize = 0;
-    while b < 64 {
+fn show_state(rt: &impl Print, k: u64, state: State) {
+    print(rt, "state ", k);
+    print_word(rt, " count ", state.count);
+    for b in 0..64 {
         if state.words[b] != 0 || state.marks[b] != 0 {
-            print(b" ", b as u64);
-            print_word(b"=", state.words[b]);
-            print_byte(b"/", state.marks[b]);
+            print(rt, " ", b as u64);
+            print_word(rt, "=", state.words[b]);
+            print_byte(rt, "/", state.marks[b]);
         }
-        b += 1;
     }
-    end_line();
+    end_line(rt);
 }
 
-fn show_record(bays: Bays) {
-    print_byte(b"turn ", bays.turn);
-    end_line();
-    let mut k: usize = 0;
-    while k < 4 {
+fn show_record(rt: &impl Print, bays: Bays) {
+    print_byte(rt, "turn ", bays.turn);
+    end_line(rt);
+    for k in 0..4 {
         let state = bays.states[k];
-        show_state(k as u64, state);
-        k += 1;
+        show_state(rt, k as u64, state);
     }
 }
 
 // A step of a bay, shown.
 fn stepped(
+    rt: &impl Print,
     net: Net,
     bays: Bays,
     bay: u8,
@@ -115,34 +109,42 @@ fn stepped(
     ready: u32,
 ) -> Bays {
     let answer = bays::step_bay(net, bays, bay, words, ends, offer, ready);
-    print_byte(b"bay ", bay);
-    show(answer);
+    print_byte(rt, "bay ", bay);
+    show(rt, answer);
     answer.bays
 }
 
 // The bay that has the turn, as it is named.
-fn show_named(bay: u8) {
+fn show_named(rt: &impl Print, bay: u8) {
     if bay == 4 {
-        io::write_all(STDOUT_FILENO, b"next no bay");
+        let _ = print!(rt; "next no bay");
         return;
     }
-    print_byte(b"next bay ", bay);
+    print_byte(rt, "next bay ", bay);
 }
 
 // The step of the bay that has the turn, shown.
-fn turned(net: Net, bays: Bays, words: &[u32], ends: &[u32], masks: &[u32; 8], want: u32) -> Bays {
+fn turned(
+    rt: &impl Print,
+    net: Net,
+    bays: Bays,
+    words: &[u32],
+    ends: &[u32],
+    masks: &[u32; 8],
+    want: u32,
+) -> Bays {
     let answer = bays::next(net, bays, words, ends, masks, want);
     let step = answer.step;
-    show_named(answer.bay);
-    show(step);
+    show_named(rt, answer.bay);
+    show(rt, step);
     step.bays
 }
 
 // A fresh record, its refusal shown.
-fn begun(net: Net) -> Bays {
+fn begun(rt: &impl Print, net: Net) -> Bays {
     let fresh = bays::fresh_bays(net);
-    print_byte(b"fresh ", fresh.refusal);
-    end_line();
+    print_byte(rt, "fresh ", fresh.refusal);
+    end_line(rt);
     fresh.bays
 }
 
@@ -240,6 +242,7 @@ fn masked(panel: Panel, op: u32, a: u32, b: u32) -> Panel {
 
 // A call of `next` to which at most so many ends are lent.
 fn turned_over(
+    rt: &impl Print,
     net: Net,
     bays: Bays,
     words: &[u32],
@@ -249,13 +252,14 @@ fn turned_over(
     lent: usize,
 ) -> Bays {
     if lent < ends.len() {
-        return turned(net, bays, words, &ends[..lent], masks, want);
+        return turned(rt, net, bays, words, &ends[..lent], masks, want);
     }
-    turned(net, bays, words, ends, masks, want)
+    turned(rt, net, bays, words, ends, masks, want)
 }
 
 // The record after a command.
 fn obeyed(
+    rt: &impl Print,
     net: Net,
     bays: Bays,
     words: &[u32],
@@ -266,14 +270,14 @@ fn obeyed(
     b: u32,
 ) -> Bays {
     if op < FRESH {
-        return stepped(net, bays, op as u8, words, ends, a, b);
+        return stepped(rt, net, bays, op as u8, words, ends, a, b);
     }
     if op == FRESH {
-        return begun(net);
+        return begun(rt, net);
     }
     if op == NEXT {
         let masks = panel.masks;
-        return turned_over(net, bays, words, ends, &masks, a, b as usize);
+        return turned_over(rt, net, bays, words, ends, &masks, a, b as usize);
     }
     if op == SET_TURN {
         return with_turn(bays, (a % 256) as u8);
@@ -282,7 +286,14 @@ fn obeyed(
 }
 
 // What command i leaves.
-fn commanded(before: Trial, words: &[u32], ends: &[u32], commands: &[u8], i: usize) -> Trial
+fn commanded(
+    rt: &impl Print,
+    before: Trial,
+    words: &[u32],
+    ends: &[u32],
+    commands: &[u8],
+    i: usize,
+) -> Trial
     requires { 12 * i + 12 ≤ length commands.now }
 {
     let op = number_at(commands, 3 * i);
@@ -290,29 +301,27 @@ fn commanded(before: Trial, words: &[u32], ends: &[u32], commands: &[u8], i: usi
     let b = number_at(commands, 3 * i + 2);
     let net = altered(before.net, op, a);
     let panel = masked(before.panel, op, a, b);
-    let bays = obeyed(net, before.bays, words, ends, panel, op, a, b);
+    let bays = obeyed(rt, net, before.bays, words, ends, panel, op, a, b);
     Trial { net, bays, panel }
 }
 
 // Obeys the commands from a fresh record on, and shows the record in the end.
-fn obey(net: Net, words: &[u32], ends: &[u32], commands: &[u8]) {
-    let bays = begun(net);
+fn obey(rt: &impl Print, net: Net, words: &[u32], ends: &[u32], commands: &[u8]) {
+    let bays = begun(rt, net);
     let panel = Panel { masks: [0; 8] };
     let mut trial = Trial { net, bays, panel };
     let count = commands.len() / 12;
-    let mut i: usize = 0;
-    while i < count {
-        trial = commanded(trial, words, ends, commands, i);
-        i += 1;
+    for i in 0..count {
+        trial = commanded(rt, trial, words, ends, commands, i);
     }
-    show_record(trial.bays);
+    show_record(rt, trial.bays);
 }
 
 // Runs the calls of a file.
-fn run_file(file: &[u8]) {
+fn run_file(rt: &impl Print, file: &[u8]) {
     let case = cases::read_case(file);
     if !case.good {
-        io::write_all(STDOUT_FILENO, b"bad case\n");
+        let _ = println!(rt; "bad case");
         return;
     }
     let form_at = case.form_at;
@@ -323,10 +332,11 @@ fn run_file(file: &[u8]) {
     let words = case.words;
     let ends = case.ends;
     let loaded = forms::load(&file[form_at..form_end]);
-    print_byte(b"load ", loaded.refusal);
-    end_line();
+    print_byte(rt, "load ", loaded.refusal);
+    end_line(rt);
     let net = loaded.net;
     obey(
+        rt,
         net,
         &words[..word_count],
         &ends[..end_count],
@@ -347,40 +357,39 @@ fn ready_in(cycle: u64) -> u32 {
 }
 
 // Bays 0 and 1 in turn for six cycles; nothing stalls in bay 0.
-fn two_bays(net: Net, words: &[u32], ends: &[u32]) -> Bays {
-    let mut bays = begun(net);
-    let mut cycle: u64 = 0;
-    while cycle < 6 {
-        bays = stepped(net, bays, 0, words, ends, 1, 3);
-        bays = stepped(net, bays, 1, words, ends, 1, ready_in(cycle));
-        cycle += 1;
+fn two_bays(rt: &impl Print, net: Net, words: &[u32], ends: &[u32]) -> Bays {
+    let mut bays = begun(rt, net);
+    for cycle in 0..6 {
+        bays = stepped(rt, net, bays, 0, words, ends, 1, 3);
+        bays = stepped(rt, net, bays, 1, words, ends, 1, ready_in(cycle));
     }
     bays
 }
 
 // A record in which bay 2 has one cycle left: it gets that one, and then it is refused; bay 3 goes on.
-fn last_cycle(net: Net, bays: Bays, words: &[u32], ends: &[u32]) {
+fn last_cycle(rt: &impl Print, net: Net, bays: Bays, words: &[u32], ends: &[u32]) {
     let near = with_count(bays, 2, CYCLES - 1);
-    let full = stepped(net, near, 2, words, ends, 1, 3);
-    let refused = stepped(net, full, 2, words, ends, 1, 3);
-    let after = stepped(net, refused, 3, words, ends, 1, 3);
-    show_record(after);
+    let full = stepped(rt, net, near, 2, words, ends, 1, 3);
+    let refused = stepped(rt, net, full, 2, words, ends, 1, 3);
+    let after = stepped(rt, net, refused, 3, words, ends, 1, 3);
+    show_record(rt, after);
 }
 
 // A bay that is not there; a bay whose count is out of range, and one whose ends do not fit, each before a step of bay 3, which goes on; a turn beyond the four bays.
-fn refused_steps(net: Net, bays: Bays, words: &[u32], ends: &[u32]) {
-    stepped(net, bays, 4, words, ends, 1, 3);
+fn refused_steps(rt: &impl Print, net: Net, bays: Bays, words: &[u32], ends: &[u32]) {
+    stepped(rt, net, bays, 4, words, ends, 1, 3);
     let spoilt = with_count(bays, 2, CYCLES + 1);
-    stepped(net, spoilt, 2, words, ends, 1, 3);
-    let first = stepped(net, spoilt, 3, words, ends, 1, 3);
-    let same = stepped(net, first, 1, words, words, 1, 3);
-    let second = stepped(net, same, 3, words, ends, 1, 3);
+    stepped(rt, net, spoilt, 2, words, ends, 1, 3);
+    let first = stepped(rt, net, spoilt, 3, words, ends, 1, 3);
+    let same = stepped(rt, net, first, 1, words, words, 1, 3);
+    let second = stepped(rt, net, same, 3, words, ends, 1, 3);
     let lost = with_turn(second, 7);
-    stepped(net, lost, 3, words, ends, 1, 3);
+    stepped(rt, net, lost, 3, words, ends, 1, 3);
 }
 
 // So many calls of `next` in which bays 0, 1 and 2 want a cycle.
 fn in_turn(
+    rt: &impl Print,
     net: Net,
     before: Bays,
     words: &[u32],
@@ -389,29 +398,27 @@ fn in_turn(
     calls: u64,
 ) -> Bays {
     let mut bays = before;
-    let mut i: u64 = 0;
-    while i < calls {
-        bays = turned(net, bays, words, ends, masks, 7);
-        i += 1;
+    for _ in 0..calls {
+        bays = turned(rt, net, bays, words, ends, masks, 7);
     }
     bays
 }
 
 // Three bays in turn; the second sink of bay 1 is never ready. The fifth call gets ends that do not fit. Then calls that name no bay: bits 4 and 5 alone want a cycle, which are no bay's;
 // and a turn beyond the four bays.
-fn three_bays(net: Net, words: &[u32], ends: &[u32]) {
+fn three_bays(rt: &impl Print, net: Net, words: &[u32], ends: &[u32]) {
     let masks = [1u32, 3, 1, 1, 1, 3, 0, 0];
-    let fresh = begun(net);
-    let first = in_turn(net, fresh, words, ends, &masks, 4);
-    let refused = turned(net, first, words, words, &masks, 7);
-    let last = in_turn(net, refused, words, ends, &masks, 4);
-    show_record(last);
-    turned(net, last, words, ends, &masks, 48);
+    let fresh = begun(rt, net);
+    let first = in_turn(rt, net, fresh, words, ends, &masks, 4);
+    let refused = turned(rt, net, first, words, words, &masks, 7);
+    let last = in_turn(rt, net, refused, words, ends, &masks, 4);
+    show_record(rt, last);
+    turned(rt, net, last, words, ends, &masks, 48);
     let lost = with_turn(last, 7);
-    turned(net, lost, words, ends, &masks, 7);
+    turned(rt, net, lost, words, ends, &masks, 7);
 }
 
-fn show_trials() {
+fn show_trials(rt: &impl Print) {
     let form = [
         0x10u8, 0x00, 0x04, 0x03, 0x00, 0x00, 0x84, 0x00, 0x08, 0x21, 0x00, 0x22, 0x00, 0x80,
     ];
@@ -419,23 +426,23 @@ fn show_trials() {
     let ends = [4u32];
     let loaded = forms::load(&form);
     let net = loaded.net;
-    let bays = two_bays(net, &words, &ends);
-    show_record(bays);
-    last_cycle(net, bays, &words, &ends);
-    refused_steps(net, bays, &words, &ends);
-    three_bays(net, &words, &ends);
+    let bays = two_bays(rt, net, &words, &ends);
+    show_record(rt, bays);
+    last_cycle(rt, net, bays, &words, &ends);
+    refused_steps(rt, net, bays, &words, &ends);
+    three_bays(rt, net, &words, &ends);
 }
 
-fn main() {
-    if os::arg_count() < 2 {
-        show_trials();
+fn main(rt: HostRuntime) {
+    if !input::has_argument(&rt, 1) {
+        show_trials(&rt);
         return;
     }
-    let mut buf = io::buffer();
-    let file = input::read_form(b"baytry", &mut buf);
+    let mut buf = [0u8; input::ROOM];
+    let file = input::read_form(&rt, b"baytry", &mut buf);
     if file.failed {
         return;
     }
     let n = file.bytes;
-    run_file(&buf[..n]);
+    run_file(&rt, &buf[..n]);
 }

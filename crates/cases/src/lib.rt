@@ -93,10 +93,8 @@ fn numbers_in(bytes: &[u8], n: usize) -> [u32; 256]
     ensures { length result ≡ 256 }
 {
     let mut numbers = [0u32; WORD_ROOM];
-    let mut i: usize = 0;
-    while i < n {
+    for i in 0..n {
         numbers[i] = number_at(bytes, i);
-        i += 1;
     }
     numbers
 }

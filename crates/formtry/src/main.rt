@@ -6,56 +6,48 @@ ghost use Rattle.std.specs.Prelude.{◌≡◌, length};
 use forms::Written;
 use nets::{Block, Net};
 
-fn say(text: &[u8], n: u64) {
-    io::write_all(1, text);
-    io::print_decimal(1, n);
-    io::write_all(1, b"\n");
+// Prints a line: a text and a number. A write that fails is passed over.
+fn say(rt: &impl Print, text: &str, n: u64) {
+    let _ = println!(rt; "{text}{n}");
 }
 
 // Prints the refusal that a form earns.
-fn show(text: &[u8], form: &[u8]) {
+fn show(rt: &impl Print, text: &str, form: &[u8]) {
     let found = forms::load(form);
-    say(text, found.refusal as u64);
+    say(rt, text, found.refusal as u64);
 }
 
-fn print_bytes(bytes: &[u8]) {
-    let mut i = 0;
-    while i < bytes.len() {
-        io::write_all(1, b" ");
-        io::print_hex(1, wide(bytes[i]), 2);
-        i += 1;
+fn print_bytes(rt: &impl Print, bytes: &[u8]) {
+    for byte in bytes {
+        let _ = print!(rt; " {byte:02x}");
     }
-    io::write_all(1, b"\n");
-}
-
-fn wide(b: u8) -> u64 {
-    b as u64
+    let _ = println!(rt);
 }
 
 // Prints what writing a net answers.
-fn answer(written: Written) {
+fn answer(rt: &impl Print, written: Written) {
     match written {
-        Written::Bytes(n) => say(b"bytes ", n as u64),
-        Written::Unfit => say(b"refused ", 12),
-        Written::Short => say(b"refused ", 17),
+        Written::Bytes(n) => say(rt, "bytes ", n as u64),
+        Written::Unfit => say(rt, "refused ", 12),
+        Written::Short => say(rt, "refused ", 17),
     }
 }
 
 // The form of document 01's trial run, loaded, and written into a longer buffer and a shorter one.
-fn trial() {
+fn trial(rt: &impl Print) {
     let form = [
         0x10u8, 0x00, 0x04, 0x03, 0x00, 0x01, 0x00, 0x00, 0x09, 0x80, 0x00, 0x00, 0x00, 0x28, 0x10,
         0x42, 0x00, 0x80,
     ];
-    show(b"18 bytes: ", &form);
+    show(rt, "18 bytes: ", &form);
     let found = forms::load(&form);
     let net = found.net;
     let mut long = [0xAAu8; 20];
-    answer(forms::write(net, &mut long));
-    print_bytes(&long);
+    answer(rt, forms::write(net, &mut long));
+    print_bytes(rt, &long);
     let mut short = [0xAAu8; 17];
-    answer(forms::write(net, &mut short));
-    print_bytes(&short);
+    answer(rt, forms::write(net, &mut short));
+    print_bytes(rt, &short);
 }
 
 // 32 sources, each joined to a sink.
@@ -66,8 +58,7 @@ fn pairs() -> Net {
         value: 0,
         ports: [0u8; 10],
     }; 64];
-    let mut i: usize = 0;
-    while i < 64 {
+    for i in 0..64 {
         let mut ports = [0u8; 10];
         ports[0] = (i / 2) as u8;
         blocks[i] = Block {
@@ -76,7 +67,6 @@ fn pairs() -> Net {
             value: 0,
             ports,
         };
-        i += 1;
     }
     Net {
         size: 64,
@@ -86,13 +76,13 @@ fn pairs() -> Net {
 }
 
 // A form of 64 blocks, and the same with the count 65.
-fn most_blocks() {
+fn most_blocks(rt: &impl Print) {
     let net = pairs();
     let mut form = [0u8; 124];
-    answer(forms::write(net, &mut form));
-    show(b"64 blocks: ", &form);
+    answer(rt, forms::write(net, &mut form));
+    show(rt, "64 blocks: ", &form);
     form[2] = 65;
-    show(b"65 blocks: ", &form);
+    show(rt, "65 blocks: ", &form);
 }
 
 // Byte i of muxes of 8 inputs, all of their ports on channel 0: four of them have 39 bytes.
@@ -124,37 +114,35 @@ fn muxes() -> [u8; 100000]
     ensures { 100000 ≡ length result }
 {
     let mut form = [0u8; 100000];
-    let mut i: usize = 0;
-    while i < 628 {
+    for i in 0..628 {
         form[i] = form_byte(i);
-        i += 1;
     }
     form
 }
 
 // Prints the refusal that the first n bytes earn.
-fn show_part(text: &[u8], form: &[u8], n: usize) {
+fn show_part(rt: &impl Print, text: &str, form: &[u8], n: usize) {
     if n <= form.len() {
-        show(text, &form[..n]);
+        show(rt, text, &form[..n]);
     }
 }
 
 // The longest form that can be read through, which earns 8, and shorter and longer ones.
-fn lengths() {
+fn lengths(rt: &impl Print) {
     let longest = muxes();
     let form: &[u8] = &longest;
-    show_part(b"0 bytes: ", form, 0);
-    show_part(b"1 byte: ", form, 1);
-    show_part(b"3 bytes: ", form, 3);
-    show_part(b"627 bytes: ", form, 627);
-    show_part(b"628 bytes: ", form, 628);
-    show_part(b"629 bytes: ", form, 629);
-    show(b"100000 bytes: ", form);
+    show_part(rt, "0 bytes: ", form, 0);
+    show_part(rt, "1 byte: ", form, 1);
+    show_part(rt, "3 bytes: ", form, 3);
+    show_part(rt, "627 bytes: ", form, 627);
+    show_part(rt, "628 bytes: ", form, 628);
+    show_part(rt, "629 bytes: ", form, 629);
+    show(rt, "100000 bytes: ", form);
 }
 
-fn main() {
-    trial();
-    most_blocks();
-    show(b"byte 20: ", &[0x20u8]);
-    lengths();
+fn main(rt: HostRuntime) {
+    trial(&rt);
+    most_blocks(&rt);
+    show(&rt, "byte 20: ", &[0x20u8]);
+    lengths(&rt);
 }

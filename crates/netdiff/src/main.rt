@@ -8,18 +8,20 @@ ghost use Rattle.std.specs.Prelude.{◌≡◌, ◌+◌, ◌<◌, ◌≤◌, leng
 ghost use Rattle.netdiff.specs.Waits.{Within};
 
 use compare::Compared;
-use libc::{STDERR_FILENO, STDOUT_FILENO};
+use std::env::Env;
+use std::fs;
+use std::io::{Read, Seek, SeekFrom};
 use std::num::wrapping_add_u64;
 
-// A file that is read: its descriptor, and the argument that names it.
-#[derive(Clone, Copy)]
+// A file that is read, and the argument that names it.
+#[derive(Drop)]
 struct File {
-    fd: i32,
+    bytes: fs::File,
     argument: usize,
 }
 
 // The two files.
-#[derive(Clone, Copy)]
+#[derive(Drop)]
 struct Files {
     first: File,
     second: File,
@@ -63,6 +65,8 @@ struct Surplus {
 const RECORD_BYTES: usize = 8;
 // As many words as a block of a file has records, so that a channel's words of a block have room.
 const MOST_WORDS: usize = 8192;
+// The bytes of a block.
+const BLOCK: usize = 65536;
 
 const CHANNELS: usize = 128;
 // In place of a channel's number: each channel; none that there is.
@@ -80,29 +84,30 @@ const DIFFER: u8 = 3;
 
 // ---- Errors
 
-fn say(text: &[u8]) {
-    io::write_all(STDERR_FILENO, text);
+// Writes on standard error. Where that fails there is nothing left to say it with.
+fn say(rt: &HostRuntime, text: &[u8]) {
+    let _ = rt.stderr().write_all(text);
 }
 
 // Writes the program's name and the argument i on standard error.
-fn say_argument(i: usize) {
-    let mut text = io::buffer();
-    let n = os::arg(i, &mut text);
-    say(b"netdiff: ");
-    say(&text[..n]);
+fn say_argument(rt: &HostRuntime, i: usize) {
+    let mut text = [0u8; input::ROOM];
+    let n = rt.arg(i, &mut text).unwrap_or(0);
+    say(rt, b"netdiff: ");
+    say(rt, &text[..n]);
 }
 
 // A file that could be read when it was opened, and cannot any more.
-fn say_unreadable(i: usize) {
-    say_argument(i);
-    say(b" cannot be read to its end\n");
+fn say_unreadable(rt: &HostRuntime, i: usize) {
+    say_argument(rt, i);
+    say(rt, b" cannot be read to its end\n");
 }
 
-fn say_no_trace(i: usize, bytes: u64) {
-    say_argument(i);
-    say(b" is no trace: its ");
-    io::print_decimal(STDERR_FILENO, bytes);
-    say(b" bytes are not whole records of 8 bytes (refusal 22)\n");
+fn say_no_trace(rt: &HostRuntime, i: usize, bytes: u64) {
+    say_argument(rt, i);
+    let _ = eprintln!(rt;
+        " is no trace: its {bytes} bytes are not whole records of 8 bytes (refusal 22)"
+    );
 }
 
 // ---- Reading
@@ -132,18 +137,22 @@ fn unreadable() -> Waiting
 }
 
 // The channel's words of the next block. A block that is not full is the last one.
-fn next_words(file: File, channel: u8, buf: &mut [u8], list: &mut [u32]) -> Waiting
+fn next_words(
+    rt: &HostRuntime,
+    file: &File,
+    channel: u8,
+    buf: &mut [u8],
+    list: &mut [u32],
+) -> Waiting
     ensures { Within (length list.old) result }
 {
-    let input = input::read_all(file.fd, buf);
-    if input.failed {
-        say_unreadable(file.argument);
+    let Ok(n) = input::read_all(&mut &file.bytes, buf) else {
+        say_unreadable(rt, file.argument);
         return unreadable();
-    }
-    let n = input.bytes;
+    };
     let gathered = compare::gather(&buf[..n], channel, list);
     if gathered.refusal != 0 {
-        say_no_trace(file.argument, n as u64);
+        say_no_trace(rt, file.argument, n as u64);
         return unreadable();
     }
     Waiting {
@@ -155,57 +164,40 @@ fn next_words(file: File, channel: u8, buf: &mut [u8], list: &mut [u32]) -> Wait
 }
 
 // What waits where the list is used up: the words of the next block that has some.
-fn refilled(file: File, channel: u8, before: Waiting, buf: &mut [u8], list: &mut [u32]) -> Waiting
+fn refilled(
+    rt: &HostRuntime,
+    file: &File,
+    channel: u8,
+    before: Waiting,
+    buf: &mut [u8],
+    list: &mut [u32],
+) -> Waiting
     requires { Within (length list.old) before }
     ensures { Within (length list.old) result }
 {
     let mut waiting = before;
-    let mut turns = u64::MAX;
-    while turns > 0 && waiting.from == waiting.to && waiting.more {
-        waiting = next_words(file, channel, buf, list);
-        turns -= 1;
+    for _ in 0..u64::MAX {
+        if waiting.from != waiting.to || !waiting.more {
+            break;
+        }
+        waiting = next_words(rt, file, channel, buf, list);
     }
     waiting
 }
 
 // ---- Printing
 
-fn print(text: &[u8], n: u64) {
-    io::write_all(STDOUT_FILENO, text);
-    io::print_decimal(STDOUT_FILENO, n);
+// A channel's line that ends in a number of words. A write that fails is passed over.
+fn print_words(rt: &impl Print, channel: u8, text: &str, n: u64) {
+    let _ = match n {
+        0 => println!(rt; "channel {channel}{text}no words"),
+        1 => println!(rt; "channel {channel}{text}1 word"),
+        _ => println!(rt; "channel {channel}{text}{n} words"),
+    };
 }
 
-fn end_line() {
-    io::write_all(STDOUT_FILENO, b"\n");
-}
-
-// A channel's line up to what is said of it.
-fn print_channel(channel: u8, text: &[u8]) {
-    print(b"channel ", channel as u64);
-    io::write_all(STDOUT_FILENO, text);
-}
-
-// A channel's line that ends in a number of words.
-fn print_words(channel: u8, text: &[u8], n: u64) {
-    print_channel(channel, text);
-    if n == 0 {
-        io::write_all(STDOUT_FILENO, b"no");
-    } else {
-        io::print_decimal(STDOUT_FILENO, n);
-    }
-    if n == 1 {
-        io::write_all(STDOUT_FILENO, b" word\n");
-    } else {
-        io::write_all(STDOUT_FILENO, b" words\n");
-    }
-}
-
-fn print_difference(channel: u8, place: u64, one: u32, other: u32) {
-    print_channel(channel, b"");
-    print(b": differ at ", place);
-    print(b": ", one as u64);
-    print(b" ", other as u64);
-    end_line();
+fn print_difference(rt: &impl Print, channel: u8, place: u64, one: u32, other: u32) {
+    let _ = println!(rt; "channel {channel}: differ at {place}: {one} {other}");
 }
 
 // ---- Comparing
@@ -274,7 +266,8 @@ fn passed(first: Waiting, second: Waiting, count: u64, a: &[u32], b: &[u32]) -> 
 
 // One turn: reads on where nothing waits, and passes over the words that match.
 fn advanced(
-    files: Files,
+    rt: &HostRuntime,
+    files: &Files,
     channel: u8,
     at: Progress,
     buf: &mut [u8],
@@ -286,14 +279,15 @@ fn advanced(
     ensures within_3 { Within (length a.old) result.first }
     ensures within_4 { Within (length b.old) result.second }
 {
-    let first = refilled(files.first, channel, at.first, buf, a);
-    let second = refilled(files.second, channel, at.second, buf, b);
+    let first = refilled(rt, &files.first, channel, at.first, buf, a);
+    let second = refilled(rt, &files.second, channel, at.second, buf, b);
     passed(first, second, at.matched, &*a, &*b)
 }
 
 // How many words a file has left, with those that are read: so many of the block that `last` tells of. failed: it could not be read.
 fn left_over(
-    file: File,
+    rt: &HostRuntime,
+    file: &File,
     channel: u8,
     last: Waiting,
     words: usize,
@@ -302,11 +296,12 @@ fn left_over(
 ) -> Surplus {
     let mut waiting = last;
     let mut sum = words as u64;
-    let mut turns = u64::MAX;
-    while turns > 0 && waiting.more {
-        waiting = next_words(file, channel, buf, list);
+    for _ in 0..u64::MAX {
+        if !waiting.more {
+            break;
+        }
+        waiting = next_words(rt, file, channel, buf, list);
         sum = wrapping_add_u64(sum, waiting.to as u64);
-        turns -= 1;
     }
     Surplus {
         words: sum,
@@ -347,15 +342,16 @@ fn ended(answer: u8, rest: usize) -> Ending {
 
 // ---- A channel's line
 
-fn print_surplus(channel: u8, text: &[u8], surplus: Surplus) {
+fn print_surplus(rt: &impl Print, channel: u8, text: &str, surplus: Surplus) {
     if !surplus.failed {
-        print_words(channel, text, surplus.words);
+        print_words(rt, channel, text, surplus.words);
     }
 }
 
 // The channel's line, by how the words compare that wait in the end.
 fn print_ending(
-    files: Files,
+    rt: &HostRuntime,
+    files: &Files,
     channel: u8,
     at: Progress,
     end: Ending,
@@ -363,21 +359,29 @@ fn print_ending(
     list: &mut [u32],
 ) {
     if end.answer == EQUAL {
-        print_words(channel, b": equal, ", at.matched);
+        print_words(rt, channel, ": equal, ", at.matched);
     } else if end.answer == FIRST_BEGINS {
-        let surplus = left_over(files.second, channel, at.second, end.number, buf, list);
-        print_surplus(channel, b": first begins second by ", surplus);
+        let surplus = left_over(rt, &files.second, channel, at.second, end.number, buf, list);
+        print_surplus(rt, channel, ": first begins second by ", surplus);
     } else if end.answer == SECOND_BEGINS {
-        let surplus = left_over(files.first, channel, at.first, end.number, buf, list);
-        print_surplus(channel, b": second begins first by ", surplus);
+        let surplus = left_over(rt, &files.first, channel, at.first, end.number, buf, list);
+        print_surplus(rt, channel, ": second begins first by ", surplus);
     } else {
         let place = wrapping_add_u64(at.matched, end.number as u64);
-        print_difference(channel, place, end.one, end.other);
+        print_difference(rt, channel, place, end.one, end.other);
     }
 }
 
 // The channel's line, unless a file could not be read.
-fn conclude(files: Files, channel: u8, at: Progress, buf: &mut [u8], a: &mut [u32], b: &mut [u32])
+fn conclude(
+    rt: &HostRuntime,
+    files: &Files,
+    channel: u8,
+    at: Progress,
+    buf: &mut [u8],
+    a: &mut [u32],
+    b: &mut [u32],
+)
     requires within { Within (length a.old) at.first }
     requires within_2 { Within (length b.old) at.second }
 {
@@ -391,26 +395,27 @@ fn conclude(files: Files, channel: u8, at: Progress, buf: &mut [u8], a: &mut [u3
     let other_from = second.from;
     let other_to = second.to;
     let end = ends(&a[from..to], &b[other_from..other_to]);
-    print_ending(files, channel, at, end, buf, a);
+    print_ending(rt, files, channel, at, end, buf, a);
 }
 
 // Lays the channel's words of the two files beside each other.
-fn lay_beside(files: Files, channel: u8) {
-    libc::lseek(files.first.fd, 0, libc::SEEK_SET);
-    libc::lseek(files.second.fd, 0, libc::SEEK_SET);
-    let mut block = io::large_buffer();
+fn lay_beside(rt: &HostRuntime, files: &Files, channel: u8) {
+    let _ = (&files.first.bytes).seek(SeekFrom::Start(0));
+    let _ = (&files.second.bytes).seek(SeekFrom::Start(0));
+    let mut block = [0u8; BLOCK];
     let mut words = [0u32; MOST_WORDS];
     let mut others = [0u32; MOST_WORDS];
     let buf: &mut [u8] = &mut block;
     let a: &mut [u32] = &mut words;
     let b: &mut [u32] = &mut others;
     let mut at = begun();
-    let mut turns = u64::MAX;
-    while turns > 0 && at.going {
-        at = advanced(files, channel, at, buf, a, b);
-        turns -= 1;
+    for _ in 0..u64::MAX {
+        if !at.going {
+            break;
+        }
+        at = advanced(rt, files, channel, at, buf, a, b);
     }
-    conclude(files, channel, at, buf, a, b);
+    conclude(rt, files, channel, at, buf, a, b);
 }
 
 // ---- Each channel
@@ -420,59 +425,56 @@ fn mark_block(block: &[u8], seen: &mut [bool])
     requires { length seen.old ≡ 128 }
 {
     let n = block.len() / RECORD_BYTES;
-    let mut i: usize = 0;
-    while i < n {
+    for i in 0..n {
         let channel = recorded::channel_of(recorded::record_at(block, i));
         seen[channel as usize] = true;
-        i += 1;
     }
 }
 
 // Marks the channels of the next block, and answers whether there may be another one.
-fn mark_next(file: File, buf: &mut [u8], seen: &mut [bool]) -> bool
+fn mark_next(file: &File, buf: &mut [u8], seen: &mut [bool]) -> bool
     requires { length seen.old ≡ 128 }
 {
-    let input = input::read_all(file.fd, buf);
-    let n = input.bytes;
+    let n = input::read_all(&mut &file.bytes, buf).unwrap_or(0);
     mark_block(&buf[..n], seen);
     n == buf.len()
 }
 
 // Marks the channels on which a file has words.
-fn mark_channels(file: File, seen: &mut [bool])
+fn mark_channels(file: &File, seen: &mut [bool])
     requires { length seen.old ≡ 128 }
 {
-    libc::lseek(file.fd, 0, libc::SEEK_SET);
-    let mut block = io::large_buffer();
+    let _ = (&file.bytes).seek(SeekFrom::Start(0));
+    let mut block = [0u8; BLOCK];
     let buf: &mut [u8] = &mut block;
-    let mut turns = u64::MAX;
-    while turns > 0 && mark_next(file, buf, seen) {
-        turns -= 1;
+    for _ in 0..u64::MAX {
+        if !mark_next(file, buf, seen) {
+            break;
+        }
     }
 }
 
 // A line for each channel. One on which neither file has a word needs no more reading.
-fn lay_all_beside(files: Files) {
+fn lay_all_beside(rt: &HostRuntime, files: &Files) {
     let mut marks = [false; CHANNELS];
     let seen: &mut [bool] = &mut marks;
-    mark_channels(files.first, seen);
-    mark_channels(files.second, seen);
-    let mut c: usize = 0;
-    while c < CHANNELS {
+    mark_channels(&files.first, seen);
+    mark_channels(&files.second, seen);
+    for c in 0..CHANNELS {
         if seen[c] {
-            lay_beside(files, c as u8);
+            lay_beside(rt, files, c as u8);
         } else {
-            print_words(c as u8, b": equal, ", 0);
+            print_words(rt, c as u8, ": equal, ", 0);
         }
-        c += 1;
     }
 }
 
 // ---- Arguments
 
-fn say_usage() {
-    say(b"netdiff: usage: netdiff FIRST SECOND [CHANNEL]\n");
+fn say_usage(rt: &HostRuntime) {
+    say(rt, b"netdiff: usage: netdiff FIRST SECOND [CHANNEL]\n");
     say(
+        rt,
         b"FIRST and SECOND are traces: the records that were written, 8 bytes each, and not the whole buffer. Without CHANNEL there is a line for each of the 128.\n",
     );
 }
@@ -498,127 +500,135 @@ fn channel_in(text: &[u8]) -> u8 {
         return NO_CHANNEL;
     }
     let mut number: u8 = 0;
-    let mut i: usize = 0;
-    while i < text.len() {
-        number = with_digit(number, text[i]);
-        i += 1;
+    for digit in text {
+        number = with_digit(number, *digit);
     }
     number
 }
 
 // The channel that the third argument asks for, or none, which is then said.
-fn channel_asked() -> u8 {
-    let mut text = io::buffer();
-    let n = os::arg(3, &mut text);
+fn channel_asked(rt: &HostRuntime) -> u8 {
+    let mut text = [0u8; input::ROOM];
+    let n = rt.arg(3, &mut text).unwrap_or(0);
     let channel = channel_in(&text[..n]);
     if channel == NO_CHANNEL {
-        say_argument(3);
-        say(b" is no channel: channels are 0 to 127\n");
+        say_argument(rt, 3);
+        say(rt, b" is no channel: channels are 0 to 127\n");
     }
     channel
 }
 
 // A pipe would be found empty when it is read for the second time, so it is not read at all.
-fn say_once_only(path: &[u8]) {
-    say(b"netdiff: cannot read ");
-    say(path);
-    say(b": it can be read only once, as a pipe can; put it into a file first\n");
+fn say_once_only(rt: &HostRuntime, path: &[u8]) {
+    say(rt, b"netdiff: cannot read ");
+    say(rt, path);
+    say(
+        rt,
+        b": it can be read only once, as a pipe can; put it into a file first\n",
+    );
 }
 
 // Whether an open file can be read, and again from its beginning; where it cannot, says so with its name.
-fn is_readable(fd: i32, path: &[u8]) -> bool {
-    if libc::lseek(fd, 0, libc::SEEK_SET) < 0 {
-        say_once_only(path);
+fn is_readable(rt: &HostRuntime, file: &fs::File, path: &[u8]) -> bool {
+    let mut input = file;
+    if input.seek(SeekFrom::Start(0)).is_err() {
+        say_once_only(rt, path);
         return false;
     }
     let mut byte = [0u8; 1];
-    if libc::read(fd, &mut byte) < 0 {
-        input::complain(b"netdiff", path);
-        return false;
+    match input.read(&mut byte) {
+        Ok(_) => true,
+        Err(error) => {
+            input::complain(rt, b"netdiff", path, &error);
+            false
+        }
     }
-    true
 }
 
-// Opens the file that argument i names, and tries to read it; a descriptor below 0 says that it cannot be read.
-fn opened(i: usize) -> i32 {
-    let mut path = io::buffer();
-    let n = os::arg(i, &mut path);
-    if os::errno() != 0 {
-        input::complain(b"netdiff", b"the file that an argument names");
-        return -1;
+// Opens the file of that name, and tries to read it; none says that it cannot be read.
+fn opened_by_name(rt: &HostRuntime, path: &[u8]) -> Option<fs::File> {
+    match input::open(rt, path) {
+        Ok(file) => {
+            if is_readable(rt, &file, path) {
+                Some(file)
+            } else {
+                None
+            }
+        }
+        Err(error) => {
+            input::complain(rt, b"netdiff", path, &error);
+            None
+        }
     }
-    let fd = os::open_read(&path[..n]);
-    if fd < 0 {
-        input::complain(b"netdiff", &path[..n]);
-        return fd;
-    }
-    if is_readable(fd, &path[..n]) { fd } else { -1 }
 }
 
-fn unsigned(n: i64) -> u64 {
-    if n > 0 { n as u64 } else { 0 }
+// Opens the file that argument i names, and tries to read it; none says that it cannot be read.
+fn opened(rt: &HostRuntime, i: usize) -> Option<fs::File> {
+    let mut path = [0u8; input::ROOM];
+    match rt.arg(i, &mut path) {
+        Ok(n) => opened_by_name(rt, &path[..n]),
+        Err(_) => {
+            let name = b"the file that an argument names";
+            input::complain(rt, b"netdiff", name, &input::too_long());
+            None
+        }
+    }
 }
 
 // How many bytes a file has; one that cannot tell has none, and is read to its end all the same.
-fn bytes_of(file: File) -> u64 {
-    unsigned(libc::lseek(file.fd, 0, libc::SEEK_END))
+fn bytes_of(file: &File) -> u64 {
+    (&file.bytes).seek(SeekFrom::End(0)).unwrap_or(0)
 }
 
 // Whether a file is whole records.
-fn is_trace(file: File) -> bool {
+fn is_trace(rt: &HostRuntime, file: &File) -> bool {
     let bytes = bytes_of(file);
     if bytes as usize % RECORD_BYTES != 0 {
-        say_no_trace(file.argument, bytes);
+        say_no_trace(rt, file.argument, bytes);
         return false;
     }
     true
 }
 
 // Compares the two files, on one channel or on each.
-fn compare_files(files: Files, channel: u8) {
-    if !is_trace(files.first) {
+fn compare_files(rt: &HostRuntime, files: &Files, channel: u8) {
+    if !is_trace(rt, &files.first) {
         return;
     }
-    if !is_trace(files.second) {
+    if !is_trace(rt, &files.second) {
         return;
     }
     if channel == EACH {
-        lay_all_beside(files);
+        lay_all_beside(rt, files);
     } else {
-        lay_beside(files, channel);
+        lay_beside(rt, files, channel);
     }
 }
 
 // Compares the files that the first two arguments name.
-fn compare_named(channel: u8) {
-    let fd = opened(1);
-    if fd < 0 {
+fn compare_named(rt: &HostRuntime, channel: u8) {
+    let Some(bytes) = opened(rt, 1) else {
         return;
-    }
-    let first = File { fd, argument: 1 };
-    let other = opened(2);
-    if other < 0 {
-        return;
-    }
-    let second = File {
-        fd: other,
-        argument: 2,
     };
-    compare_files(Files { first, second }, channel);
+    let first = File { bytes, argument: 1 };
+    let Some(bytes) = opened(rt, 2) else {
+        return;
+    };
+    let second = File { bytes, argument: 2 };
+    compare_files(rt, &Files { first, second }, channel);
 }
 
-fn main() {
-    let count = os::arg_count();
-    if count < 3 || 4 < count {
-        say_usage();
+fn main(rt: HostRuntime) {
+    if !input::has_argument(&rt, 2) || input::has_argument(&rt, 4) {
+        say_usage(&rt);
         return;
     }
-    if count == 3 {
-        compare_named(EACH);
+    if !input::has_argument(&rt, 3) {
+        compare_named(&rt, EACH);
         return;
     }
-    let channel = channel_asked();
+    let channel = channel_asked(&rt);
     if channel != NO_CHANNEL {
-        compare_named(channel);
+        compare_named(&rt, channel);
     }
 }

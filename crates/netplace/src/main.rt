@@ -3,45 +3,40 @@
 
 ghost use Rattle.std.specs.Prelude.{◌≤◌, length};
 
-use libc::STDOUT_FILENO;
 use placements::numbers;
 
-// Prints a refusal.
-fn print_refusal(n: u8) {
-    io::write_all(STDOUT_FILENO, b"refused ");
-    io::print_decimal(STDOUT_FILENO, n as u64);
-    io::write_all(STDOUT_FILENO, b"\n");
+// Prints a refusal. A write that fails is passed over.
+fn print_refusal(rt: &impl Print, n: u8) {
+    let _ = println!(rt; "refused {n}");
 }
 
 // Prints the codes of the first count numbers, of n channels each.
-fn print_lines(n: usize, listed: &[u16], count: usize)
+fn print_lines(rt: &impl Print, n: usize, listed: &[u16], count: usize)
     requires { (n ≤ 6) × (count ≤ length listed.now) }
 {
-    let mut i: usize = 0;
-    while i < count {
+    for i in 0..count {
         let line = numbers::line_of(n, listed[i]);
-        io::write_all(STDOUT_FILENO, &line[..n + 1]);
-        i += 1;
+        let _ = rt.write_all(&line[..n + 1]);
     }
 }
 
 // Prints the list of a form, or the refusal that it earns.
-fn print_list(form: &[u8]) {
+fn print_list(rt: &impl Print, form: &[u8]) {
     let list = placements::list_form(form);
     if list.refusal != 0 {
-        print_refusal(list.refusal);
+        print_refusal(rt, list.refusal);
         return;
     }
     let listed = list.numbers;
-    print_lines(list.channels as usize, &listed, list.count);
+    print_lines(rt, list.channels as usize, &listed, list.count);
 }
 
-fn main() {
-    let mut buf = io::buffer();
-    let form = input::read_form(b"netplace", &mut buf);
+fn main(rt: HostRuntime) {
+    let mut buf = [0u8; input::ROOM];
+    let form = input::read_form(&rt, b"netplace", &mut buf);
     if form.failed {
         return;
     }
     let n = form.bytes;
-    print_list(&buf[..n]);
+    print_list(&rt, &buf[..n]);
 }

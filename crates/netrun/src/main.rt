@@ -3,55 +3,41 @@
 
 ghost use Rattle.std.specs.Prelude.{◌*◌, ◌≤◌, length};
 
-use libc::STDOUT_FILENO;
-
-fn print_number(n: u64) {
-    io::print_decimal(STDOUT_FILENO, n);
-}
-
-fn print_line(text: &[u8], n: u64) {
-    io::write_all(STDOUT_FILENO, text);
-    print_number(n);
-    io::write_all(STDOUT_FILENO, b"\n");
-}
-
-// Prints a record: its cycle, its channel and its word.
-fn print_record(r: u64) {
-    print_number(recorded::cycle_of(r));
-    io::write_all(STDOUT_FILENO, b" ");
-    print_number(recorded::channel_of(r) as u64);
-    print_line(b" ", recorded::word_of(r) as u64);
+// Prints a record: its cycle, its channel and its word. A write that fails is passed over.
+fn print_record(rt: &impl Print, r: u64) {
+    let cycle = recorded::cycle_of(r);
+    let channel = recorded::channel_of(r);
+    let word = recorded::word_of(r);
+    let _ = println!(rt; "{cycle} {channel} {word}");
 }
 
 // Prints the first n records of a trace.
-fn print_records(trace: &[u8], n: usize)
+fn print_records(rt: &impl Print, trace: &[u8], n: usize)
     requires { 8 * n ≤ length trace.now }
 {
-    let mut i: usize = 0;
-    while i < n {
-        print_record(recorded::record_at(trace, i));
-        i += 1;
+    for i in 0..n {
+        print_record(rt, recorded::record_at(trace, i));
     }
 }
 
 // Prints what comes of a form, or the refusal that it earns. The trace has room for a delivery on every channel in each of 6 cycles.
-fn run_form(form: &[u8]) {
+fn run_form(rt: &impl Print, form: &[u8]) {
     let mut trace = [0u8; 6144];
     let ran = sample::run_form(form, &mut trace);
     if ran.refusal != 0 {
-        print_line(b"refused ", ran.refusal as u64);
+        let _ = println!(rt; "refused {}", ran.refusal);
         return;
     }
-    print_records(&trace, ran.records as usize);
-    print_line(b"end ", ran.cycles as u64);
+    print_records(rt, &trace, ran.records as usize);
+    let _ = println!(rt; "end {}", ran.cycles);
 }
 
-fn main() {
-    let mut buf = io::buffer();
-    let form = input::read_form(b"netrun", &mut buf);
+fn main(rt: HostRuntime) {
+    let mut buf = [0u8; input::ROOM];
+    let form = input::read_form(&rt, b"netrun", &mut buf);
     if form.failed {
         return;
     }
     let n = form.bytes;
-    run_form(&buf[..n]);
+    run_form(&rt, &buf[..n]);
 }

@@ -6,9 +6,9 @@ ghost use Rattle.std.specs.Prelude.{◌≡◌, ◌≤◌, length};
 ghost use Rattle.nets.specs.Verdict.{Joined};
 
 use cycles::State;
-use libc::{STDERR_FILENO, STDOUT_FILENO};
 use nets::Net;
 use stalls::Chain;
+use std::env::Env;
 use typed::{FINE, Listed, NO_NUMBER, TOO_LONG, list_in, named, narrowed, number_in, numbers_end};
 
 // The masks of an argument: so many entries of its list, one for each of the first cycles, and the mask of all later cycles. failed: it was none, which was said.
@@ -50,6 +50,9 @@ const MOST_MASKS: usize = 4096;
 
 const MOST_STREAMS: usize = 64;
 
+// The bytes of an argument.
+const MOST_TEXT: usize = 65536;
+
 // As many channels as a chain can have.
 const CHANNELS: usize = 128;
 
@@ -64,69 +67,86 @@ const TOO_MANY_CYCLES: u8 = 16;
 
 // ---- Errors
 
-// Writes on standard error.
-fn say(text: &[u8]) {
-    io::write_all(STDERR_FILENO, text);
+// Writes on standard error. Where that fails there is nothing left to say it with.
+fn say(rt: &HostRuntime, text: &[u8]) {
+    let _ = rt.stderr().write_all(text);
 }
 
 // What to write where an argument is missing.
-fn say_usage() {
-    say(b"netstall: usage: netstall FORM CYCLE CHANNEL [offer=MASKS] [ready=MASKS] [STREAM..]\n");
+fn say_usage(rt: &HostRuntime) {
     say(
+        rt,
+        b"netstall: usage: netstall FORM CYCLE CHANNEL [offer=MASKS] [ready=MASKS] [STREAM..]\n",
+    );
+    say(
+        rt,
         b"FORM is a file with a stored net, CYCLE how many cycles are run before the question, CHANNEL where the chain begins. MASKS are the masks of the first cycles, as ready=3,1 (later cycles have all bits) or ready=3,1.. (the last one goes on). Each STREAM has the words of the next source, as 10,20,30; without any, every source gets 1,2,3.\n",
     );
 }
 
 // Begins a message about argument i.
-fn say_argument(i: usize) {
-    say(b"netstall: argument ");
-    io::print_decimal(STDERR_FILENO, i as u64);
+fn say_argument(rt: &HostRuntime, i: usize) {
+    let _ = eprint!(rt; "netstall: argument {i}");
 }
 
 // Begins a message about argument i with its text.
-fn say_text(i: usize, text: &[u8]) {
-    say_argument(i);
-    say(b", \"");
-    say(text);
-    say(b"\", ");
+fn say_text(rt: &HostRuntime, i: usize, text: &[u8]) {
+    say_argument(rt, i);
+    say(rt, b", \"");
+    say(rt, text);
+    say(rt, b"\", ");
 }
 
 // An argument that does not fit its buffer.
-fn say_too_long(i: usize) {
-    say_argument(i);
-    say(b" has over 65536 bytes: give fewer or shorter numbers\n");
+fn say_too_long(rt: &HostRuntime, i: usize) {
+    say_argument(rt, i);
+    say(
+        rt,
+        b" has over 65536 bytes: give fewer or shorter numbers\n",
+    );
 }
 
 // What is wrong with an argument that has masks.
-fn say_bad_masks(i: usize, text: &[u8], fault: u8) {
+fn say_bad_masks(rt: &HostRuntime, i: usize, text: &[u8], fault: u8) {
     if fault == TOO_LONG {
-        say_argument(i);
-        say(b" has over 4096 masks: give fewer, the last one can go on by .. after it\n");
+        say_argument(rt, i);
+        say(
+            rt,
+            b" has over 4096 masks: give fewer, the last one can go on by .. after it\n",
+        );
         return;
     }
-    say_text(i, text);
+    say_text(rt, i, text);
     say(
+        rt,
         b"is no list of masks: write numbers from 0 to 4294967295 with commas between them, as ready=3,1 or, for the last one to go on, ready=3,1..\n",
     );
 }
 
 // What is wrong with an argument that has a stream.
-fn say_bad_stream(i: usize, text: &[u8], fault: u8) {
+fn say_bad_stream(rt: &HostRuntime, i: usize, text: &[u8], fault: u8) {
     if fault == TOO_LONG {
-        say_argument(i);
-        say(b" has more words than there is room for: give at most 4096 in all streams\n");
+        say_argument(rt, i);
+        say(
+            rt,
+            b" has more words than there is room for: give at most 4096 in all streams\n",
+        );
         return;
     }
-    say_text(i, text);
+    say_text(rt, i, text);
     say(
+        rt,
         b"is no stream: write words from 0 to 4294967295 with commas between them, as 10,20,30; masks begin with offer= or ready=\n",
     );
 }
 
 // A stream for which there is no room.
-fn say_too_many_streams(i: usize) {
-    say_argument(i);
-    say(b" is one stream too many: there is room for 64; give one for each source of the net\n");
+fn say_too_many_streams(rt: &HostRuntime, i: usize) {
+    say_argument(rt, i);
+    say(
+        rt,
+        b" is one stream too many: there is room for 64; give one for each source of the net\n",
+    );
 }
 
 // ---- Masks
@@ -153,7 +173,7 @@ fn rest_of(list: &[u32], count: usize, goes_on: bool) -> u32
 }
 
 // The masks of argument i, which come after its name, in the list.
-fn masks_in(i: usize, text: &[u8], name: usize, list: &mut [u32]) -> Masks
+fn masks_in(rt: &HostRuntime, i: usize, text: &[u8], name: usize, list: &mut [u32]) -> Masks
     requires { name ≤ length text.now }
     ensures { result.count ≤ length list.old }
 {
@@ -161,7 +181,7 @@ fn masks_in(i: usize, text: &[u8], name: usize, list: &mut [u32]) -> Masks
     let last = name + end;
     let listed = list_in(&text[name..last], 0, list);
     if listed.fault != FINE {
-        say_bad_masks(i, text, listed.fault);
+        say_bad_masks(rt, i, text, listed.fault);
         return no_masks(true);
     }
     let count = listed.count;
@@ -174,33 +194,32 @@ fn masks_in(i: usize, text: &[u8], name: usize, list: &mut [u32]) -> Masks
 }
 
 // The masks after argument i: its own where it begins with the name, else those before.
-fn masks_after(i: usize, name: &[u8], before: Masks, list: &mut [u32]) -> Masks
+fn masks_after(rt: &HostRuntime, i: usize, name: &[u8], before: Masks, list: &mut [u32]) -> Masks
     requires { before.count ≤ length list.old }
     ensures { result.count ≤ length list.old }
 {
-    let mut text = io::large_buffer();
-    let n = os::arg(i, &mut text);
-    if os::errno() != 0 {
-        say_too_long(i);
+    let mut text = [0u8; MOST_TEXT];
+    let Ok(n) = rt.arg(i, &mut text) else {
+        say_too_long(rt, i);
         return no_masks(true);
-    }
+    };
     let at = named(&text[..n], name);
     if at == 0 {
         return before;
     }
-    masks_in(i, &text[..n], at, list)
+    masks_in(rt, i, &text[..n], at, list)
 }
 
 // The masks of the last argument that begins with the name, in the list; without such an argument all bits in every cycle.
-fn masks_given(name: &[u8], list: &mut [u32]) -> Masks
+fn masks_given(rt: &HostRuntime, name: &[u8], list: &mut [u32]) -> Masks
     ensures { result.count ≤ length list.old }
 {
-    let count = os::arg_count();
     let mut masks = no_masks(false);
-    let mut i = FIRST_FURTHER;
-    while i < count && !masks.failed {
-        masks = masks_after(i, name, masks, list);
-        i += 1;
+    for i in FIRST_FURTHER..usize::MAX {
+        if masks.failed || !input::has_argument(rt, i) {
+            break;
+        }
+        masks = masks_after(rt, i, name, masks, list);
     }
     masks
 }
@@ -236,18 +255,25 @@ fn words_in(text: &[u8], count: usize, list: &mut [u32]) -> Listed
 }
 
 // The streams with that of argument i after them.
-fn stream_in(i: usize, text: &[u8], before: Streams, words: &mut [u32], ends: &mut [u32]) -> Streams
+fn stream_in(
+    rt: &HostRuntime,
+    i: usize,
+    text: &[u8],
+    before: Streams,
+    words: &mut [u32],
+    ends: &mut [u32],
+) -> Streams
     requires { (before.words ≤ length words.old) × (before.count ≤ length ends.old) }
     ensures { (result.words ≤ length words.old) × (result.count ≤ length ends.old) }
 {
     let count = before.count;
     if ends.len() <= count {
-        say_too_many_streams(i);
+        say_too_many_streams(rt, i);
         return no_streams(true);
     }
     let listed = words_in(text, before.words, words);
     if listed.fault != FINE {
-        say_bad_stream(i, text, listed.fault);
+        say_bad_stream(rt, i, text, listed.fault);
         return no_streams(true);
     }
     ends[count] = narrowed(listed.count as u64);
@@ -267,105 +293,105 @@ fn has_masks(text: &[u8]) -> bool {
 }
 
 // The streams after argument i, which is one more unless it has masks.
-fn streams_after(i: usize, before: Streams, words: &mut [u32], ends: &mut [u32]) -> Streams
+fn streams_after(
+    rt: &HostRuntime,
+    i: usize,
+    before: Streams,
+    words: &mut [u32],
+    ends: &mut [u32],
+) -> Streams
     requires { (before.words ≤ length words.old) × (before.count ≤ length ends.old) }
     ensures { (result.words ≤ length words.old) × (result.count ≤ length ends.old) }
 {
-    let mut text = io::large_buffer();
-    let n = os::arg(i, &mut text);
-    if os::errno() != 0 {
-        say_too_long(i);
+    let mut text = [0u8; MOST_TEXT];
+    let Ok(n) = rt.arg(i, &mut text) else {
+        say_too_long(rt, i);
         return no_streams(true);
-    }
+    };
     if has_masks(&text[..n]) {
         return before;
     }
-    stream_in(i, &text[..n], before, words, ends)
+    stream_in(rt, i, &text[..n], before, words, ends)
 }
 
 // The streams of all arguments that have no masks.
-fn streams_given(words: &mut [u32], ends: &mut [u32]) -> Streams
+fn streams_given(rt: &HostRuntime, words: &mut [u32], ends: &mut [u32]) -> Streams
     ensures { (result.words ≤ length words.old) × (result.count ≤ length ends.old) }
 {
-    let count = os::arg_count();
     let mut streams = no_streams(false);
-    let mut i = FIRST_FURTHER;
-    while i < count && !streams.failed {
-        streams = streams_after(i, streams, words, ends);
-        i += 1;
+    for i in FIRST_FURTHER..usize::MAX {
+        if streams.failed || !input::has_argument(rt, i) {
+            break;
+        }
+        streams = streams_after(rt, i, streams, words, ends);
     }
     streams
 }
 
 // ---- Printing
 
-// Writes on standard output.
-fn print(text: &[u8]) {
-    io::write_all(STDOUT_FILENO, text);
-}
-
-// Prints a line that has a number in it.
-fn print_line(before: &[u8], n: u64, after: &[u8]) {
-    print(before);
-    io::print_decimal(STDOUT_FILENO, n);
-    print(after);
+// Prints a line that has a number in it. A write that fails is passed over.
+fn print_line(rt: &impl Print, before: &str, n: u64, after: &str) {
+    let _ = println!(rt; "{before}{n}{after}");
 }
 
 // Prints the refusal of the form or of the question.
-fn print_refusal(refusal: u8) {
-    print_line(b"refused ", refusal as u64, b"\n");
+fn print_refusal(rt: &impl Print, refusal: u8) {
+    print_line(rt, "refused ", refusal as u64, "");
 }
 
 // Prints a channel of a chain.
-fn print_channel(channel: u8, valid: bool) {
+fn print_channel(rt: &impl Print, channel: u8, valid: bool) {
     if valid {
         print_line(
-            b"channel ",
+            rt,
+            "channel ",
             channel as u64,
-            b": its word is not taken (lacks R)\n",
+            ": its word is not taken (lacks R)",
         );
     } else {
-        print_line(b"channel ", channel as u64, b": no word comes (lacks V)\n");
+        print_line(rt, "channel ", channel as u64, ": no word comes (lacks V)");
     }
 }
 
 // Prints the channels of a chain.
-fn print_channels(chain: Chain) {
-    let mut i: usize = 0;
-    while i < CHANNELS {
+fn print_channels(rt: &impl Print, chain: Chain) {
+    for i in 0..CHANNELS {
         if i < chain.count {
-            print_channel(chain.channels[i], chain.valid[i]);
+            print_channel(rt, chain.channels[i], chain.valid[i]);
         }
-        i += 1;
     }
 }
 
 // Prints how a chain ends, by the ending's number: at which block, for a circle at which channel; where there is no chain, that the first channel delivers.
-fn print_ending(channel: u32, number: u8, place: u64) {
+fn print_ending(rt: &impl Print, channel: u32, number: u8, place: u64) {
     match number {
-        0 => print_line(b"channel ", channel as u64, b" delivers\n"),
+        0 => print_line(rt, "channel ", channel as u64, " delivers"),
         1 => print_line(
-            b"ends at block ",
+            rt,
+            "ends at block ",
             place,
-            b": a source that offers nothing\n",
+            ": a source that offers nothing",
         ),
-        2 => print_line(b"ends at block ", place, b": a sink that is not ready\n"),
-        3 => print_line(b"ends at block ", place, b": an empty data buffer\n"),
-        4 => print_line(b"ends at block ", place, b": a full control buffer\n"),
-        5 => print_line(b"ends in a circle: channel ", place, b" is met again\n"),
+        2 => print_line(rt, "ends at block ", place, ": a sink that is not ready"),
+        3 => print_line(rt, "ends at block ", place, ": an empty data buffer"),
+        4 => print_line(rt, "ends at block ", place, ": a full control buffer"),
+        5 => print_line(rt, "ends in a circle: channel ", place, " is met again"),
         _ => print_line(
-            b"ends at block ",
+            rt,
+            "ends at block ",
             place,
-            b": no rule names a further channel\n",
+            ": no rule names a further channel",
         ),
     }
 }
 
 // Prints a chain that begins at a channel.
-fn print_chain(channel: u32, chain: Chain) {
-    print_channels(chain);
+fn print_chain(rt: &impl Print, channel: u32, chain: Chain) {
+    print_channels(rt, chain);
     let ending = chain.ending;
     print_ending(
+        rt,
         channel,
         asking::number_of(ending),
         asking::named_by(ending) as u64,
@@ -385,13 +411,11 @@ fn state_after(
     question: Question,
 ) -> State {
     let mut state = start;
-    let mut cycle: u32 = 0;
-    while cycle < question.cycles {
+    for cycle in 0..question.cycles {
         let offer = mask_of(offers, question.later_offer, cycle);
         let ready = mask_of(readies, question.later_ready, cycle);
         let stepped = sim::step::step(net, state, words, ends, offer, ready);
         state = stepped.state;
-        cycle += 1;
     }
     state
 }
@@ -414,6 +438,7 @@ fn chain_in(
 
 // Answers the question for a net that was loaded. Asking at the fresh state first shows whether it is refused, before a cycle is run.
 fn answer(
+    rt: &impl Print,
     net: Net,
     words: &[u32],
     ends: &[u32],
@@ -425,31 +450,32 @@ fn answer(
     let start = fresh.state;
     let first = chain_in(net, start, words, ends, offers, readies, question, 0);
     if first.refusal != 0 {
-        print_refusal(first.refusal);
+        print_refusal(rt, first.refusal);
         return;
     }
     let cycles = question.cycles;
     if MOST_CYCLES < cycles {
-        print_refusal(TOO_MANY_CYCLES);
+        print_refusal(rt, TOO_MANY_CYCLES);
         return;
     }
     let state = state_after(net, start, words, ends, offers, readies, question);
     let chain = chain_in(net, state, words, ends, offers, readies, question, cycles);
-    print_chain(question.channel, chain);
+    print_chain(rt, question.channel, chain);
 }
 
 // Answers the question where no stream is given: 1, 2, 3 for every source, as netrun has them.
-fn answer_sample(net: Net, offers: &[u32], readies: &[u32], question: Question)
+fn answer_sample(rt: &impl Print, net: Net, offers: &[u32], readies: &[u32], question: Question)
     requires { Joined net }
 {
     let words = sample::one_two_three();
     let ends = sample::ends_of_three();
     let k = sample::count_sources(net);
-    answer(net, &words, &ends[..k], offers, readies, question);
+    answer(rt, net, &words, &ends[..k], offers, readies, question);
 }
 
 // Answers the question for a form, or prints the refusal that the form earns.
 fn answer_form(
+    rt: &impl Print,
     form: &[u8],
     streams: Streams,
     words: &[u32],
@@ -462,23 +488,24 @@ fn answer_form(
 {
     let loading = forms::load(form);
     if loading.refusal != 0 {
-        print_refusal(loading.refusal);
+        print_refusal(rt, loading.refusal);
         return;
     }
     let net = loading.net;
     if streams.count == 0 {
-        answer_sample(net, offers, readies, question);
+        answer_sample(rt, net, offers, readies, question);
         return;
     }
     let n = streams.words;
     let k = streams.count;
-    answer(net, &words[..n], &ends[..k], offers, readies, question);
+    answer(rt, net, &words[..n], &ends[..k], offers, readies, question);
 }
 
 // ---- Arguments
 
 // Reads the form, and answers the question for it.
 fn answer_file(
+    rt: &HostRuntime,
     streams: Streams,
     words: &[u32],
     ends: &[u32],
@@ -488,17 +515,27 @@ fn answer_file(
 )
     requires { (streams.words ≤ length words.now) × (streams.count ≤ length ends.now) }
 {
-    let mut buf = io::buffer();
-    let form = input::read_form(b"netstall", &mut buf);
+    let mut buf = [0u8; input::ROOM];
+    let form = input::read_form(rt, b"netstall", &mut buf);
     if form.failed {
         return;
     }
     let n = form.bytes;
-    answer_form(&buf[..n], streams, words, ends, offers, readies, question);
+    answer_form(
+        rt,
+        &buf[..n],
+        streams,
+        words,
+        ends,
+        offers,
+        readies,
+        question,
+    );
 }
 
 // Reads the further arguments, and answers the question: after so many cycles, at a channel.
 fn answer_given(
+    rt: &HostRuntime,
     cycles: u32,
     channel: u32,
     words: &mut [u32],
@@ -506,15 +543,15 @@ fn answer_given(
     offers: &mut [u32],
     readies: &mut [u32],
 ) {
-    let offer = masks_given(b"offer=", offers);
+    let offer = masks_given(rt, b"offer=", offers);
     if offer.failed {
         return;
     }
-    let ready = masks_given(b"ready=", readies);
+    let ready = masks_given(rt, b"ready=", readies);
     if ready.failed {
         return;
     }
-    let streams = streams_given(words, ends);
+    let streams = streams_given(rt, words, ends);
     if streams.failed {
         return;
     }
@@ -527,6 +564,7 @@ fn answer_given(
     let n = offer.count;
     let m = ready.count;
     answer_file(
+        rt,
         streams,
         &*words,
         &*ends,
@@ -537,28 +575,28 @@ fn answer_given(
 }
 
 // The number that argument i is, too great, where it has more than 32 bits; none, where it is no number, which is then said.
-fn number_given(i: usize, wrong: &[u8]) -> u64 {
-    let mut text = io::large_buffer();
-    let n = os::arg(i, &mut text);
-    if os::errno() != 0 {
-        say_too_long(i);
+fn number_given(rt: &HostRuntime, i: usize, wrong: &[u8]) -> u64 {
+    let mut text = [0u8; MOST_TEXT];
+    let Ok(n) = rt.arg(i, &mut text) else {
+        say_too_long(rt, i);
         return NO_NUMBER;
-    }
+    };
     let number = number_in(&text[..n]);
     if number == NO_NUMBER {
-        say_text(i, &text[..n]);
-        say(wrong);
+        say_text(rt, i, &text[..n]);
+        say(rt, wrong);
     }
     number
 }
 
 // Reads the first three arguments, and makes room for what the others have.
-fn main() {
-    if os::arg_count() < FIRST_FURTHER {
-        say_usage();
+fn main(rt: HostRuntime) {
+    if !input::has_argument(&rt, FIRST_FURTHER - 1) {
+        say_usage(&rt);
         return;
     }
     let cycles = number_given(
+        &rt,
         CYCLE_ARGUMENT,
         b"is no number of cycles: write it in digits alone, as 3\n",
     );
@@ -566,6 +604,7 @@ fn main() {
         return;
     }
     let channel = number_given(
+        &rt,
         CHANNEL_ARGUMENT,
         b"is no number of a channel: write it in digits alone, as 0\n",
     );
@@ -577,6 +616,7 @@ fn main() {
     let mut offers = [0u32; MOST_MASKS];
     let mut readies = [0u32; MOST_MASKS];
     answer_given(
+        &rt,
         narrowed(cycles),
         narrowed(channel),
         &mut words,

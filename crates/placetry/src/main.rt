@@ -5,81 +5,72 @@
 ghost use Rattle.std.specs.Prelude.{◌≤◌};
 
 use forms::Written;
-use libc::STDOUT_FILENO;
 use nets::{Block, Net};
 use placements::numbers;
+use std::env::Env;
 use stored::Loading;
 
-fn say(text: &[u8], n: u64) {
-    io::write_all(STDOUT_FILENO, text);
-    io::print_decimal(STDOUT_FILENO, n);
-    io::write_all(STDOUT_FILENO, b"\n");
+// Prints a line: a text and a number. A write that fails is passed over.
+fn say(rt: &impl Print, text: &str, n: u64) {
+    let _ = println!(rt; "{text}{n}");
 }
 
-fn print_byte(b: u8) {
-    io::print_hex(STDOUT_FILENO, b as u64, 2);
-}
-
-fn print_bytes(bytes: &[u8]) {
-    let mut i: usize = 0;
-    while i < bytes.len() {
-        print_byte(bytes[i]);
-        i += 1;
+fn print_bytes(rt: &impl Print, bytes: &[u8]) {
+    for byte in bytes {
+        let _ = print!(rt; "{byte:02x}");
     }
-    io::write_all(STDOUT_FILENO, b"\n");
+    let _ = println!(rt);
 }
 
 // Prints the first n bytes.
-fn print_front(bytes: &[u8], n: usize) {
+fn print_front(rt: &impl Print, bytes: &[u8], n: usize) {
     if n <= bytes.len() {
-        print_bytes(&bytes[..n]);
+        print_bytes(rt, &bytes[..n]);
     }
 }
 
 // Prints the form of a net, which has at most 628 bytes.
-fn print_net(net: Net) {
+fn print_net(rt: &impl Print, net: Net) {
     let mut form = [0u8; 628];
     match forms::write(net, &mut form) {
-        Written::Bytes(n) => print_front(&form, n),
-        Written::Unfit => say(b"refused ", 12),
-        Written::Short => say(b"refused ", 17),
+        Written::Bytes(n) => print_front(rt, &form, n),
+        Written::Unfit => say(rt, "refused ", 12),
+        Written::Short => say(rt, "refused ", 17),
     }
 }
 
 // Prints the placed net's form, or the refusal.
-fn print_placed(found: Loading) {
+fn print_placed(rt: &impl Print, found: Loading) {
     if found.refusal != 0 {
-        say(b"refused ", found.refusal as u64);
+        say(rt, "refused ", found.refusal as u64);
         return;
     }
     let net = found.net;
-    print_net(net);
+    print_net(rt, net);
 }
 
 // Prints the placement of a form's net by number k on n channels: its codes, then what comes of it.
-fn print_number(form: &[u8], n: usize, k: u16)
+fn print_number(rt: &impl Print, form: &[u8], n: usize, k: u16)
     requires { n ≤ 6 }
 {
     let line = numbers::line_of(n, k);
-    io::write_all(STDOUT_FILENO, &line[..n]);
-    io::write_all(STDOUT_FILENO, b" ");
+    let _ = rt.write_all(&line[..n]);
+    let _ = print!(rt; " ");
     let codes = numbers::codes_of(n, k as usize);
-    print_placed(placements::place_form(form, &codes[..n]));
+    print_placed(rt, placements::place_form(form, &codes[..n]));
 }
 
 // Prints every placement of a form's net, or the refusal of its list.
-fn print_all(form: &[u8]) {
+fn print_all(rt: &impl Print, form: &[u8]) {
     let list = placements::list_form(form);
     if list.refusal != 0 {
-        say(b"refused ", list.refusal as u64);
+        say(rt, "refused ", list.refusal as u64);
         return;
     }
     let n = list.channels as usize;
     let count = numbers::power(n);
-    let mut k: usize = 0;
-    while k < count {
-        print_number(form, n, k as u16);
-        k += 1;
+    for k in 0..count {
+        print_number(rt, form, n, k as u16);
     }
 }
 
@@ -92,15 +83,13 @@ fn code_of(digit: u8) -> u8 {
 }
 
 // Prints the placement of a form's net by the codes of the second argument.
-fn print_one(form: &[u8]) {
-    let mut codes = io::buffer();
-    let n = os::arg(2, &mut codes);
-    let mut i: usize = 0;
-    while i < n {
+fn print_one(rt: &(impl Print + Env), form: &[u8]) {
+    let mut codes = [0u8; input::ROOM];
+    let n = rt.arg(2, &mut codes).unwrap_or(0);
+    for i in 0..n {
         codes[i] = code_of(codes[i]);
-        i += 1;
     }
-    print_placed(placements::place_form(form, &codes[..n]));
+    print_placed(rt, placements::place_form(form, &codes[..n]));
 }
 
 fn zero_block() -> Block {
@@ -142,10 +131,8 @@ fn looped() -> Net {
 fn pairs() -> Net {
     let zero = zero_block();
     let mut blocks = [zero; 64];
-    let mut i: usize = 0;
-    while i < 64 {
+    for i in 0..64 {
         blocks[i] = block((i % 2) as u8, (i / 2) as u8, 0);
-        i += 1;
     }
     Net {
         size: 64,
@@ -155,61 +142,61 @@ fn pairs() -> Net {
 }
 
 // Prints the refusal of a placement.
-fn show(text: &[u8], net: Net, codes: &[u8]) {
+fn show(rt: &impl Print, text: &str, net: Net, codes: &[u8]) {
     let found = placements::place(net, codes);
-    say(text, found.refusal as u64);
+    say(rt, text, found.refusal as u64);
 }
 
 // Prints the refusal of a list and its count.
-fn show_list(text: &[u8], net: Net) {
+fn show_list(rt: &impl Print, text: &str, net: Net) {
     let list = placements::list(net);
-    say(text, list.refusal as u64);
-    say(b"  count ", list.count as u64);
+    say(rt, text, list.refusal as u64);
+    say(rt, "  count ", list.count as u64);
 }
 
 // A net value whose loop lacks a buffer, with codes and lists of every kind.
-fn trial_of_loops() {
+fn trial_of_loops(rt: &impl Print) {
     let net = looped();
-    show(b"codes 00: ", net, &[0u8, 0]);
-    show(b"codes 02: ", net, &[0u8, 2]);
-    show(b"codes 01: ", net, &[0u8, 1]);
-    show(b"one code: ", net, &[2u8]);
-    show(b"three codes: ", net, &[0u8, 2, 0]);
-    show(b"codes 04: ", net, &[0u8, 4]);
-    show_list(b"its list: ", net);
+    show(rt, "codes 00: ", net, &[0u8, 0]);
+    show(rt, "codes 02: ", net, &[0u8, 2]);
+    show(rt, "codes 01: ", net, &[0u8, 1]);
+    show(rt, "one code: ", net, &[2u8]);
+    show(rt, "three codes: ", net, &[0u8, 2, 0]);
+    show(rt, "codes 04: ", net, &[0u8, 4]);
+    show_list(rt, "its list: ", net);
 }
 
 // Net values that fail a check, or that have no room.
-fn trial_of_values() {
+fn trial_of_values(rt: &impl Print) {
     let full = pairs();
     let mut codes = [0u8; 32];
-    show(b"64 blocks, no buffer: ", full, &codes);
+    show(rt, "64 blocks, no buffer: ", full, &codes);
     codes[31] = 1;
-    show(b"64 blocks, one buffer: ", full, &codes);
+    show(rt, "64 blocks, one buffer: ", full, &codes);
     codes[0] = 4;
-    show(b"64 blocks, a code above 3 too: ", full, &codes);
-    show_list(b"32 channels: ", full);
+    show(rt, "64 blocks, a code above 3 too: ", full, &codes);
+    show_list(rt, "32 channels: ", full);
     let mut torn = looped();
     torn.channels = 3;
-    show(b"a channel without ports: ", torn, &[4u8]);
-    show_list(b"its list: ", torn);
+    show(rt, "a channel without ports: ", torn, &[4u8]);
+    show_list(rt, "its list: ", torn);
 }
 
-fn main() {
-    if os::arg_count() < 2 {
-        trial_of_loops();
-        trial_of_values();
+fn main(rt: HostRuntime) {
+    if !input::has_argument(&rt, 1) {
+        trial_of_loops(&rt);
+        trial_of_values(&rt);
         return;
     }
-    let mut buf = io::buffer();
-    let form = input::read_form(b"placetry", &mut buf);
+    let mut buf = [0u8; input::ROOM];
+    let form = input::read_form(&rt, b"placetry", &mut buf);
     if form.failed {
         return;
     }
     let n = form.bytes;
-    if os::arg_count() < 3 {
-        print_all(&buf[..n]);
+    if input::has_argument(&rt, 2) {
+        print_one(&rt, &buf[..n]);
     } else {
-        print_one(&buf[..n]);
+        print_all(&rt, &buf[..n]);
     }
 }

@@ -6,7 +6,6 @@
 ghost use Rattle.std.specs.Prelude.{◌≡◌, ◌+◌, ◌*◌, ◌≤◌, ◌<◌, length};
 
 use cycles::State;
-use libc::STDOUT_FILENO;
 use nets::Net;
 use stalls::Chain;
 use trace::numbers::number_at;
@@ -46,86 +45,102 @@ struct Trial {
 
 // ---- Printing
 
-// Prints a text and a number.
-fn print(text: &[u8], n: u64) {
-    io::write_all(STDOUT_FILENO, text);
-    io::print_decimal(STDOUT_FILENO, n);
+// Prints a text and a number. A write that fails is passed over.
+fn print(rt: &impl Print, text: &str, n: u64) {
+    let _ = print!(rt; "{text}{n}");
 }
 
 // Prints a text and a byte's number.
-fn print_byte(text: &[u8], b: u8) {
-    print(text, b as u64);
+fn print_byte(rt: &impl Print, text: &str, b: u8) {
+    print(rt, text, b as u64);
 }
 
 // Ends a line.
-fn end_line() {
-    io::write_all(STDOUT_FILENO, b"\n");
+fn end_line(rt: &impl Print) {
+    let _ = println!(rt);
 }
 
 // Prints a channel of a chain: `v` after one that lacks V, `r` after one that has V and lacks R.
-fn show_channel(channel: u8, valid: bool) {
-    print_byte(b" ", channel);
-    if valid {
-        io::write_all(STDOUT_FILENO, b"r");
-    } else {
-        io::write_all(STDOUT_FILENO, b"v");
-    }
+fn show_channel(rt: &impl Print, channel: u8, valid: bool) {
+    let lacking = if valid { "r" } else { "v" };
+    let _ = print!(rt; " {channel}{lacking}");
 }
 
 // Prints the channels of a chain.
-fn show_channels(chain: Chain) {
-    let mut i: usize = 0;
-    while i < CHANNELS {
+fn show_channels(rt: &impl Print, chain: Chain) {
+    for i in 0..CHANNELS {
         if i < chain.count {
-            show_channel(chain.channels[i], chain.valid[i]);
+            show_channel(rt, chain.channels[i], chain.valid[i]);
         }
-        i += 1;
     }
 }
 
 // Prints a chain and its ending, or the refusal of the question.
-fn show(channel: u32, chain: Chain) {
-    print(b"ask ", channel as u64);
-    print_byte(b": refusal ", chain.refusal);
+fn show(rt: &impl Print, channel: u32, chain: Chain) {
+    print(rt, "ask ", channel as u64);
+    print_byte(rt, ": refusal ", chain.refusal);
     if chain.refusal == 0 {
-        show_channels(chain);
+        show_channels(rt, chain);
         let ending = chain.ending;
-        print_byte(b" ending ", asking::number_of(ending));
-        print_byte(b" at ", asking::named_by(ending));
+        print_byte(rt, " ending ", asking::number_of(ending));
+        print_byte(rt, " at ", asking::named_by(ending));
     }
-    end_line();
+    end_line(rt);
 }
 
 // ---- Calls, shown
 
 // A fresh state, its refusal shown.
-fn begun(net: Net) -> State {
+fn begun(rt: &impl Print, net: Net) -> State {
     let fresh = sim::step::fresh(net);
-    print_byte(b"fresh ", fresh.refusal);
-    end_line();
+    print_byte(rt, "fresh ", fresh.refusal);
+    end_line(rt);
     fresh.state
 }
 
 // The state after a step, its refusal shown.
-fn stepped(net: Net, state: State, words: &[u32], ends: &[u32], offer: u32, ready: u32) -> State {
+fn stepped(
+    rt: &impl Print,
+    net: Net,
+    state: State,
+    words: &[u32],
+    ends: &[u32],
+    offer: u32,
+    ready: u32,
+) -> State {
     let answer = sim::step::step(net, state, words, ends, offer, ready);
-    print_byte(b"step: refusal ", answer.refusal);
-    end_line();
+    print_byte(rt, "step: refusal ", answer.refusal);
+    end_line(rt);
     answer.state
 }
 
 // The chain from a channel, shown.
-fn ask(net: Net, state: State, words: &[u32], ends: &[u32], offer: u32, ready: u32, channel: u32) {
+fn ask(
+    rt: &impl Print,
+    net: Net,
+    state: State,
+    words: &[u32],
+    ends: &[u32],
+    offer: u32,
+    ready: u32,
+    channel: u32,
+) {
     let chain = stalls::follow::follow(net, state, words, ends, offer, ready, channel);
-    show(channel, chain);
+    show(rt, channel, chain);
 }
 
 // The chain from each channel that a net can have, shown.
-fn ask_all(net: Net, state: State, words: &[u32], ends: &[u32], offer: u32, ready: u32) {
-    let mut c: usize = 0;
-    while c < CHANNELS {
-        ask(net, state, words, ends, offer, ready, c as u32);
-        c += 1;
+fn ask_all(
+    rt: &impl Print,
+    net: Net,
+    state: State,
+    words: &[u32],
+    ends: &[u32],
+    offer: u32,
+    ready: u32,
+) {
+    for c in 0..CHANNELS {
+        ask(rt, net, state, words, ends, offer, ready, c as u32);
     }
 }
 
@@ -194,6 +209,7 @@ fn changed(state: State, op: u32, a: u32, b: u32) -> State {
 
 // The state after a command.
 fn obeyed(
+    rt: &impl Print,
     net: Net,
     state: State,
     words: &[u32],
@@ -204,24 +220,25 @@ fn obeyed(
     c: u32,
 ) -> State {
     if op == STEP {
-        return stepped(net, state, words, ends, a, b);
+        return stepped(rt, net, state, words, ends, a, b);
     }
     if op == ASK {
-        ask(net, state, words, ends, a, b, c);
+        ask(rt, net, state, words, ends, a, b, c);
         return state;
     }
     if op == ASK_ALL {
-        ask_all(net, state, words, ends, a, b);
+        ask_all(rt, net, state, words, ends, a, b);
         return state;
     }
     if op == FRESH {
-        return begun(net);
+        return begun(rt, net);
     }
     changed(state, op, a, b)
 }
 
 // The state after a command to whose call at most so many ends are lent.
 fn obeyed_over(
+    rt: &impl Print,
     net: Net,
     state: State,
     words: &[u32],
@@ -233,9 +250,9 @@ fn obeyed_over(
     c: u32,
 ) -> State {
     if lent < ends.len() {
-        return obeyed(net, state, words, &ends[..lent], op, a, b, c);
+        return obeyed(rt, net, state, words, &ends[..lent], op, a, b, c);
     }
-    obeyed(net, state, words, ends, op, a, b, c)
+    obeyed(rt, net, state, words, ends, op, a, b, c)
 }
 
 // How many ends are lent at most after a command.
@@ -244,7 +261,14 @@ fn lent_after(before: usize, op: u32, a: u32) -> usize {
 }
 
 // What command i leaves.
-fn commanded(before: Trial, words: &[u32], ends: &[u32], commands: &[u8], i: usize) -> Trial
+fn commanded(
+    rt: &impl Print,
+    before: Trial,
+    words: &[u32],
+    ends: &[u32],
+    commands: &[u8],
+    i: usize,
+) -> Trial
     requires { 16 * i + 16 ≤ length commands.now }
 {
     let op = number_at(commands, 4 * i);
@@ -253,31 +277,29 @@ fn commanded(before: Trial, words: &[u32], ends: &[u32], commands: &[u8], i: usi
     let c = number_at(commands, 4 * i + 3);
     let net = altered(before.net, op, a);
     let lent = lent_after(before.lent, op, a);
-    let state = obeyed_over(net, before.state, words, ends, lent, op, a, b, c);
+    let state = obeyed_over(rt, net, before.state, words, ends, lent, op, a, b, c);
     Trial { net, state, lent }
 }
 
 // Obeys the commands from a fresh state on, with all ends lent.
-fn obey(net: Net, words: &[u32], ends: &[u32], commands: &[u8]) {
-    let state = begun(net);
+fn obey(rt: &impl Print, net: Net, words: &[u32], ends: &[u32], commands: &[u8]) {
+    let state = begun(rt, net);
     let mut trial = Trial {
         net,
         state,
         lent: ends.len(),
     };
     let count = commands.len() / 16;
-    let mut i: usize = 0;
-    while i < count {
-        trial = commanded(trial, words, ends, commands, i);
-        i += 1;
+    for i in 0..count {
+        trial = commanded(rt, trial, words, ends, commands, i);
     }
 }
 
 // Runs the calls of a file.
-fn run_file(file: &[u8]) {
+fn run_file(rt: &impl Print, file: &[u8]) {
     let case = cases::read_case(file);
     if !case.good {
-        io::write_all(STDOUT_FILENO, b"bad case\n");
+        let _ = println!(rt; "bad case");
         return;
     }
     let form_at = case.form_at;
@@ -288,10 +310,11 @@ fn run_file(file: &[u8]) {
     let words = case.words;
     let ends = case.ends;
     let loaded = forms::load(&file[form_at..form_end]);
-    print_byte(b"load ", loaded.refusal);
-    end_line();
+    print_byte(rt, "load ", loaded.refusal);
+    end_line(rt);
     let net = loaded.net;
     obey(
+        rt,
         net,
         &words[..word_count],
         &ends[..end_count],
@@ -302,44 +325,44 @@ fn run_file(file: &[u8]) {
 // ---- A fork of 2 before two sinks
 
 // All goes: channel 1 delivers. The second sink is not ready: it keeps channels 0 and 2, and channel 1 delivers. The source offers nothing: channel 2 waits for it.
-fn first_cycle(net: Net, state: State, words: &[u32], ends: &[u32]) {
-    ask(net, state, words, ends, 1, 3, 1);
-    ask(net, state, words, ends, 1, 1, 0);
-    ask(net, state, words, ends, 1, 1, 1);
-    ask(net, state, words, ends, 1, 1, 2);
-    ask(net, state, words, ends, 0, 3, 2);
+fn first_cycle(rt: &impl Print, net: Net, state: State, words: &[u32], ends: &[u32]) {
+    ask(rt, net, state, words, ends, 1, 3, 1);
+    ask(rt, net, state, words, ends, 1, 1, 0);
+    ask(rt, net, state, words, ends, 1, 1, 1);
+    ask(rt, net, state, words, ends, 1, 1, 2);
+    ask(rt, net, state, words, ends, 0, 3, 2);
 }
 
 // Two cycles in which the second sink is not ready: the first copy has gone, so channel 1 has no word until the second one goes.
-fn stalled(net: Net, state: State, words: &[u32], ends: &[u32]) -> State {
-    let after = stepped(net, state, words, ends, 1, 1);
-    let last = stepped(net, after, words, ends, 1, 1);
-    ask(net, last, words, ends, 1, 1, 1);
+fn stalled(rt: &impl Print, net: Net, state: State, words: &[u32], ends: &[u32]) -> State {
+    let after = stepped(rt, net, state, words, ends, 1, 1);
+    let last = stepped(rt, net, after, words, ends, 1, 1);
+    ask(rt, net, last, words, ends, 1, 1, 1);
     last
 }
 
 // Questions that are refused, by what is tested last first: a channel at the count and one beyond a byte; four ends for one source; both copies of the fork marked; the zero net, which is what
 // a form without bytes gives.
-fn refused(net: Net, state: State, words: &[u32], ends: &[u32]) {
-    ask(net, state, words, ends, 1, 1, 3);
-    ask(net, state, words, ends, 1, 1, 256);
-    ask(net, state, words, words, 1, 1, 256);
+fn refused(rt: &impl Print, net: Net, state: State, words: &[u32], ends: &[u32]) {
+    ask(rt, net, state, words, ends, 1, 1, 3);
+    ask(rt, net, state, words, ends, 1, 1, 256);
+    ask(rt, net, state, words, words, 1, 1, 256);
     let spoilt = with_marks(state, 1, 3);
-    ask(net, spoilt, words, words, 1, 1, 256);
+    ask(rt, net, spoilt, words, words, 1, 1, 256);
     let nothing = forms::load(b"");
     let zero = nothing.net;
-    ask(zero, spoilt, words, words, 1, 1, 256);
+    ask(rt, zero, spoilt, words, words, 1, 1, 256);
 }
 
 // A state that has used up its cycles: it can be asked, and no step is left.
-fn used_up(net: Net, state: State, words: &[u32], ends: &[u32]) {
+fn used_up(rt: &impl Print, net: Net, state: State, words: &[u32], ends: &[u32]) {
     let full = with_count(state, CYCLES);
-    let same = stepped(net, full, words, ends, 1, 1);
-    ask(net, same, words, ends, 1, 1, 0);
+    let same = stepped(rt, net, full, words, ends, 1, 1);
+    ask(rt, net, same, words, ends, 1, 1, 0);
 }
 
 // The demonstration: the net of steptry, over four words.
-fn show_trials() {
+fn show_trials(rt: &impl Print) {
     let form = [
         0x10u8, 0x00, 0x04, 0x03, 0x00, 0x00, 0x84, 0x00, 0x08, 0x21, 0x00, 0x22, 0x00, 0x80,
     ];
@@ -347,24 +370,24 @@ fn show_trials() {
     let ends = [4u32];
     let loaded = forms::load(&form);
     let net = loaded.net;
-    let state = begun(net);
-    first_cycle(net, state, &words, &ends);
-    let last = stalled(net, state, &words, &ends);
-    refused(net, last, &words, &ends);
-    used_up(net, last, &words, &ends);
+    let state = begun(rt, net);
+    first_cycle(rt, net, state, &words, &ends);
+    let last = stalled(rt, net, state, &words, &ends);
+    refused(rt, net, last, &words, &ends);
+    used_up(rt, net, last, &words, &ends);
 }
 
 // The demonstration, or the calls of a file.
-fn main() {
-    if os::arg_count() < 2 {
-        show_trials();
+fn main(rt: HostRuntime) {
+    if !input::has_argument(&rt, 1) {
+        show_trials(&rt);
         return;
     }
-    let mut buf = io::buffer();
-    let file = input::read_form(b"stalltry", &mut buf);
+    let mut buf = [0u8; input::ROOM];
+    let file = input::read_form(&rt, b"stalltry", &mut buf);
     if file.failed {
         return;
     }
     let n = file.bytes;
-    run_file(&buf[..n]);
+    run_file(&rt, &buf[..n]);
 }

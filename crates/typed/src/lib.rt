@@ -47,10 +47,8 @@ pub fn number_in(text: &[u8]) -> u64
         return NO_NUMBER;
     }
     let mut number: u64 = 0;
-    let mut i: usize = 0;
-    while i < text.len() {
-        number = with_digit(number, text[i]);
-        i += 1;
+    for digit in text {
+        number = with_digit(number, *digit);
     }
     number
 }
@@ -71,14 +69,12 @@ fn item_end(text: &[u8], from: usize) -> usize
     requires { from ≤ length text.now }
     ensures { (from ≤ result) × (result ≤ length text.now) }
 {
-    let mut at = from;
-    while at < text.len() {
+    for at in from..text.len() {
         if text[at] == b',' {
             return at;
         }
-        at += 1;
     }
-    at
+    text.len()
 }
 
 // The list with another item of its text.
@@ -129,14 +125,12 @@ pub fn named(text: &[u8], name: &[u8]) -> usize
     if text.len() < name.len() {
         return 0;
     }
-    let mut i: usize = 0;
-    while i < name.len() {
+    for i in 0..name.len() {
         if text[i] != name[i] {
             return 0;
         }
-        i += 1;
     }
-    i
+    name.len()
 }
 
 // Where the numbers of a list of masks end: before the `..` that lets the last one go on, else at the text's end.
