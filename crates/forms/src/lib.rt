@@ -33,6 +33,9 @@ pub fn load(form: &[u8]) -> Loading
     found
 }
 
+// The number of a verdict that accepts the net.
+const ACCEPTED: u8 = 0;
+
 // Writes a net's form at the buffer's beginning and changes no later byte. Refused 12 or 17, it changes none.
 pub fn write(net: Net, buf: &mut [u8]) -> Written
     ensures { Wrote net buf.old result buf.new }
@@ -40,7 +43,7 @@ pub fn write(net: Net, buf: &mut [u8]) -> Written
     let plan = nets::plan_of(net);
     let verdict = plan.verdict;
     let number = nets::number(verdict);
-    if number != 0 {
+    if number != ACCEPTED {
         return Written::Unfit;
     }
     put::put_net(net, buf)

@@ -167,12 +167,15 @@ fn kind_count(kind: u8, size: usize, rows: &[u8; 832]) -> usize
     n
 }
 
+// The most sources that a net has.
+const MOST_SOURCES: usize = 32;
+
 // There are at most 32 sources and 32 sinks.
 pub fn few_ends(size: usize, rows: &[u8; 832]) -> bool
     requires { size ≤ 64 }
     ensures { result ≡ (leb (count_below (row_is_kind rows.now 0) size) 32 && leb (count_below (row_is_kind rows.now 1) size) 32) }
 {
-    if 32 < kind_count(0, size, rows) {
+    if MOST_SOURCES < kind_count(0, size, rows) {
         return false;
     }
     kind_count(1, size, rows) <= 32

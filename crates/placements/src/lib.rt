@@ -149,6 +149,9 @@ fn refused_list(refusal: u8) -> Listing
     }
 }
 
+// The most channels of a net whose placements are listed.
+const MOST_LISTED: u8 = 6;
+
 // The list over a base net that earns the number base.
 fn list_by(base: u8, net: Net) -> Listing
     requires { base ≡ 0 → Joined net }
@@ -157,7 +160,7 @@ fn list_by(base: u8, net: Net) -> Listing
     if base != 0 {
         return refused_list(base);
     }
-    if 6 < net.channels {
+    if MOST_LISTED < net.channels {
         return refused_list(20);
     }
     let n = numbers::power(net.channels as usize);

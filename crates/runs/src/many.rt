@@ -17,6 +17,12 @@ use rows::Sorted;
 use rows::flat::{pick, sort_kinds};
 use trace::numbers::{number_in, numbers_in};
 
+// What is left of an odd count of masks, by twos.
+const ODD: usize = 1;
+
+// The number of a verdict that accepts the net.
+const ACCEPTED: u8 = 0;
+
 // The answer of a run that is not refused.
 fn answer(ending: u8, cycles: u32, records: u32, state: State) -> Run
     ensures { result ≡ record { refusal = 0; ending = ending; cycles = cycles; records = records; state = state } }
@@ -167,7 +173,7 @@ fn run_accepted(
         return refused(14, state);
     }
     let count = numbers_in(mask_bytes, masks);
-    if count % 2 == 1 {
+    if count % 2 == ODD {
         return refused(15, state);
     }
     if 1048576 < state.count as usize + count / 2 {
@@ -209,7 +215,7 @@ pub fn run_given(
 {
     let plan = nets::plan_of(net);
     let verdict = plan.verdict;
-    if nets::number(verdict) != 0 {
+    if nets::number(verdict) != ACCEPTED {
         return refused(12, state);
     }
     run_accepted(

@@ -16,6 +16,9 @@ use nets::{Net, Plan};
 use rows::Sorted;
 use signals::wires::moves_of;
 
+// The most cycles that a state counts.
+const CYCLE_LIMIT: u32 = 1048576;
+
 // The fresh state of n blocks.
 fn fresh_state(net: Net, n: usize) -> State
     requires { (n ≡ net.size) × (n ≤ 64) }
@@ -140,7 +143,7 @@ fn step_accepted(
     if laid.refusal != 0 {
         return refused(laid.refusal, state);
     }
-    if 1048576 <= state.count {
+    if CYCLE_LIMIT <= state.count {
         return refused(16, state);
     }
     let sorted = laid.sorted;

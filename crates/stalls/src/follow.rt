@@ -76,7 +76,8 @@ fn chain_from(
             ending,
         };
     }
-    if ready[at] {
+    let is_ready = ready[at];
+    if is_ready {
         return no_chain(0);
     }
     let walked = ask_ready(

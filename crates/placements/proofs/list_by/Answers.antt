@@ -20,19 +20,19 @@ In-loop-k = lts.In-loop tie.the-claims reads.Pre reads.Post goal.the-invariant-l
 -- at most 4,096 numbers
 below : (c : In-loop-k) → c.loop-k.k < 4096
 below c =
-    omega (arith, c.power-n.ensures, power_small c.args.net.channels (omega (arith, c.if-net-gt6.false)))
+    omega (arith, c.power-n.ensures, power_small c.args.net.channels (omega (arith, c.if-net-gt-MOST_LISTED.false)))
 
 pub returns-then-base-ne0 : goal.returns-then-base-ne0
 returns-then-base-ne0 c =
     c.refused_list.ensures ∙ list-base c.args.base c.args.net c.if-base-ne0.true
 
-pub returns-then-net-gt6 : goal.returns-then-net-gt6
-returns-then-net-gt6 c =
+pub returns-then-net-gt-MOST_LISTED : goal.returns-then-net-gt-MOST_LISTED
+returns-then-net-gt-MOST_LISTED c =
     let a = c.args in
-    c.refused_list-then-net-gt6.ensures ∙ list_wide a.base a.net c.if-base-ne0.false c.if-net-gt6.true
+    c.refused_list-then-net-gt-MOST_LISTED.ensures ∙ list_wide a.base a.net c.if-base-ne0.false c.if-net-gt-MOST_LISTED.true
 
 pub power-n-requires : goal.power-n-requires
-power-n-requires c = omega (arith, c.if-net-gt6.false)
+power-n-requires c = omega (arith, c.if-net-gt-MOST_LISTED.false)
 
 pub loop-k-init : goal.loop-k-init
 loop-k-init c = (omega arith, keeps_none (loads c.args.net))
@@ -41,7 +41,7 @@ pub loads_at-requires : goal.loads_at-requires
 loads_at-requires c =
     record {
       joined = c.requires c.if-base-ne0.false;
-      channels_bound = omega (arith, c.if-net-gt6.false);
+      channels_bound = omega (arith, c.if-net-gt-MOST_LISTED.false);
     }
 
 pub overflow_cast-numbers : goal.overflow_cast-numbers
@@ -83,5 +83,5 @@ returns c =
     let a = c.args in
     let l = c.loop-k in
     let all : l.k ≡ 4 ^ a.net.channels = omega (arith, c.power-n.ensures, l.invariant.0) in
-    list_done a.base a.net c.if-base-ne0.false (omega (arith, c.if-net-gt6.false)) l.count l.numbers
+    list_done a.base a.net c.if-base-ne0.false (omega (arith, c.if-net-gt-MOST_LISTED.false)) l.count l.numbers
     (subst (λ (k : ℕ). Kept (loads a.net) k l.count l.numbers) all l.invariant.1)

@@ -43,8 +43,8 @@ After-numbers_in-count = lts.After-numbers_in2 tie.the-claims reads.Pre reads.Po
 abbrev Else-not-ends_fit : Type 0
 Else-not-ends_fit = lts.Else2 tie.the-claims reads.Pre reads.Post tie.handed_clauses
 
-abbrev Else-count-eq1 : Type 0
-Else-count-eq1 = lts.Else3 tie.the-claims reads.Pre reads.Post tie.handed_clauses
+abbrev Else-count-eq-ODD : Type 0
+Else-count-eq-ODD = lts.Else3 tie.the-claims reads.Pre reads.Post tie.handed_clauses
 
 abbrev Else-state-count-gt1048576 : Type 0
 Else-state-count-gt1048576 = lts.Else4 tie.the-claims reads.Pre reads.Post tie.handed_clauses
@@ -115,11 +115,11 @@ ends_test c =
 fits : (c : Else-not-ends_fit) → ends_fit (net (start (flat_fit c.before))) (words (start (flat_fit c.before))) (ends (start (flat_fit c.before))) ≡ true
 fits c = sym (ends_test c.before) ∙ c.if-not-ends_fit.false
 
-even : (c : Else-count-eq1) → length (masks (start (flat-count c.before))) % 2 ≡ 1 → ⊥
-even c = subst (λ (k : ℕ). k % 2 ≡ 1 → ⊥) c.numbers_in-count.ensures c.if-count-eq1.false
+even : (c : Else-count-eq-ODD) → length (masks (start (flat-count c.before))) % 2 ≡ 1 → ⊥
+even c = subst (λ (k : ℕ). k % 2 ≡ 1 → ⊥) c.numbers_in-count.ensures c.if-count-eq-ODD.false
 
-two_each : (c : Else-count-eq1) → length (masks (start (flat-count c.before))) ≡ 2 * (c.numbers_in-count.result / 2)
-two_each c = omega (arith, c.numbers_in-count.ensures, c.if-count-eq1.false)
+two_each : (c : Else-count-eq-ODD) → length (masks (start (flat-count c.before))) ≡ 2 * (c.numbers_in-count.result / 2)
+two_each c = omega (arith, c.numbers_in-count.ensures, c.if-count-eq-ODD.false)
 
 -- no refusal is earned
 works : (c : Else-state-count-gt1048576) → (
@@ -173,15 +173,15 @@ returns-then-not-ends_fit c =
     (λ z. omega (arith, z)) _ c.refused-then-not-ends_fit.ensures in
     record { value = all.0; trace_after = all.1 }
 
-pub returns-then-count-eq1 : goal.returns-then-count-eq1
-returns-then-count-eq1 c =
+pub returns-then-count-eq-ODD : goal.returns-then-count-eq-ODD
+returns-then-count-eq-ODD c =
     let later = c.before.before.before.before in
     let outset = later.before in
     let s = start (flat-count c.before.before.before) in
-    let odd = subst (λ (k : ℕ). k % 2 ≡ 1) c.numbers_in-count.ensures c.if-count-eq1.true in
+    let odd = subst (λ (k : ℕ). k % 2 ≡ 1) c.numbers_in-count.ensures c.if-count-eq-ODD.true in
     let all = refused_by (net s) (state s) (words s) (ends s) (masks s) (trace s) 15
     (earns-15 (net s) (state s) (words s) (ends s) (masks s) (trace s) s.requires.net_value (shaped (shape_fit outset)) (fits later) odd)
-    (λ z. omega (arith, z)) _ c.refused-then-count-eq1.ensures in
+    (λ z. omega (arith, z)) _ c.refused-then-count-eq-ODD.ensures in
     record { value = all.0; trace_after = all.1 }
 
 pub returns-then-state-count-gt1048576 : goal.returns-then-state-count-gt1048576

@@ -46,13 +46,13 @@ returns-then-laid-ne0 c =
     ∙ refused-tested given.net given.state given.stream.now given.ends.now given.offer given.ready c.prepare-laid.result.refusal c.prepare-laid.ensures.tested
     c.if-laid-ne0.true
 
-pub returns-then-state-ge1048576 : goal.returns-then-state-ge1048576
-returns-then-state-ge1048576 c =
+pub returns-then-state-ge-CYCLE_LIMIT : goal.returns-then-state-ge-CYCLE_LIMIT
+returns-then-state-ge-CYCLE_LIMIT c =
     let outset = c.before.before.before.before.before.before in
     let given = (start outset).args in
     let ok = fits outset c.if-laid-ne0.false in
-    c.refused-then-state-ge1048576.ensures
-    ∙ refused-16 given.net given.state given.stream.now given.ends.now given.offer given.ready ok.0 ok.1 c.if-state-ge1048576.true
+    c.refused-then-state-ge-CYCLE_LIMIT.ensures
+    ∙ refused-16 given.net given.state given.stream.now given.ends.now given.offer given.ready ok.0 ok.1 c.if-state-ge-CYCLE_LIMIT.true
 
 pub work-requires : goal.work-requires
 work-requires c =
@@ -62,7 +62,7 @@ work-requires c =
       promises = (start outset).requires;
       flat = c.prepare-laid.ensures.flat;
       kinds = c.prepare-laid.ensures.kinds;
-      state_value = (ok.0, c.if-state-ge1048576.false);
+      state_value = (ok.0, c.if-state-ge-CYCLE_LIMIT.false);
       ends_value = ok.1;
     }
 
@@ -72,4 +72,4 @@ returns c =
     let given = (start outset).args in
     let ok = fits outset c.if-laid-ne0.false in
     c.work.ensures
-    ∙ not-refused given.net given.state given.stream.now given.ends.now given.offer given.ready ok.0 ok.1 c.if-state-ge1048576.false
+    ∙ not-refused given.net given.state given.stream.now given.ends.now given.offer given.ready ok.0 ok.1 c.if-state-ge-CYCLE_LIMIT.false

@@ -50,11 +50,11 @@ returns-then-not-valid-at c =
     answered c.args.valid.now (chain start) (trail_no (cycle start) none_met true c.args.c) _ _ c.ask_word-walked.result
     (from-word (next_no (cycle start)) (has_word start) (is_ready start) c.args.c c.if-not-valid-at.true) c.ask_word-walked.ensures
 
-pub returns-then-ready-at : goal.returns-then-ready-at
-returns-then-ready-at c =
+pub returns-then-is_ready : goal.returns-then-is_ready
+returns-then-is_ready c =
     let outset = c.before.before.before.before.before.before.before.before in
     let start = outset in
-    let delivers = from-delivers (next_no (cycle start)) (has_word start) (is_ready start) c.args.c c.if-not-valid-at.false c.if-ready-at.true in
+    let delivers = from-delivers (next_no (cycle start)) (has_word start) (is_ready start) c.args.c c.if-not-valid-at.false c.if-is_ready.true in
     c.no_chain.ensures ∙ ap (chain_by (λ x. get_or c.args.valid.now x false)) (sym delivers)
 
 pub ask_ready-walked-requires : goal.ask_ready-walked-requires
@@ -69,4 +69,4 @@ returns c =
     let outset = c.before.before.before.before.before.before.before.before.before.before.before in
     let start = outset in
     answered c.args.valid.now (chain start) (trail_no (cycle start) none_met false c.args.c) _ _ c.ask_ready-walked.result
-    (from-ready (next_no (cycle start)) (has_word start) (is_ready start) c.args.c c.if-not-valid-at.false c.if-ready-at.false) c.ask_ready-walked.ensures
+    (from-ready (next_no (cycle start)) (has_word start) (is_ready start) c.args.c c.if-not-valid-at.false c.if-is_ready.false) c.ask_ready-walked.ensures
