@@ -92,8 +92,8 @@ host: lib $(PROGRAMS)
 lib: $(LIB) $(SHARED) $(HEADER)
 
 $(LIB): $(SOURCES)
-	@tools/proved whemdrosk lib
-	@cp crates/whemdrosk/out/libwhemdrosk.a $@
+	@tools/proved whemdrosk_c lib
+	@cp crates/whemdrosk_c/out/libwhemdrosk_c.a $@
 	@echo "$@: the proved library"
 
 $(HEADER): include/whemdrosk.h

@@ -1,4 +1,4 @@
-// The calls for C: a form's check, and a run of a form from its fresh state. Words, ends and masks are bytes, 4 to a number, most significant first.
+// What the calls for C do: a form's check, and a run of a form from its fresh state. Words, ends and masks are bytes, 4 to a number, most significant first.
 #![tactic(auto)]
 
 ghost use Rattle.std.specs.Prelude.{◌≡◌, ◌≤◌, ◌<◌, length};
@@ -8,8 +8,7 @@ ghost use Rattle.whemdrosk.specs.Exports.{Checked, RanForm, packed_of, packed_ra
 use nets::Net;
 
 // The refusal of a form, or 0.
-#[unsafe(no_mangle)]
-pub extern "C" fn whemdrosk_check(form: &[u8]) -> u32
+pub fn whemdrosk_check(form: &[u8]) -> u32
     ensures { Checked form.now result }
 {
     let loading = forms::load(form);
@@ -51,14 +50,7 @@ fn run_bytes(net: Net, words: &[u8], ends: &[u8], masks: &[u8], trace: &mut [u8]
 }
 
 // A run of a form from its fresh state; the answer is packed. Refused in this order: 1 to 11 (the form), 14 (words, then ends), 15 (masks), 16 (the number of cycles).
-#[unsafe(no_mangle)]
-pub extern "C" fn whemdrosk_run(
-    form: &[u8],
-    words: &[u8],
-    ends: &[u8],
-    masks: &[u8],
-    trace: &mut [u8],
-) -> u64
+pub fn whemdrosk_run(form: &[u8], words: &[u8], ends: &[u8], masks: &[u8], trace: &mut [u8]) -> u64
     ensures { RanForm form.now words.now ends.now masks.now trace.old result trace.new }
 {
     let loading = forms::load(form);
