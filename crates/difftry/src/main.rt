@@ -4,6 +4,7 @@
 #![tactic(auto)]
 
 ghost use Rattle.std.specs.Prelude.{◌≡◌, ◌+◌, ◌≤◌, length};
+ghost use Rattle.std.specs.Counts.{IsPrefixLen};
 
 use compare::Compared;
 use trace::numbers::number_at;
@@ -46,7 +47,7 @@ fn unfilled() -> [u32; 256]
 
 // Gathers, shows the answer and the whole list, and answers the count.
 fn gathered(rt: &impl Print, text: &str, trace: &[u8], channel: u8, list: &mut [u32]) -> usize
-    ensures { result ≤ length list.new }
+    ensures { IsPrefixLen result list.new }
 {
     let answer = compare::gather(trace, channel, list);
     print(rt, text, answer.refusal as u64);

@@ -1,7 +1,8 @@
 // Input of programs: a stored net, which is the bytes of the file that the first argument names, or of standard input where there is none; and the next bytes of an open file.
 #![tactic(auto)]
 
-ghost use Rattle.std.specs.Prelude.{◌≡◌, ◌≤◌, length};
+ghost use Rattle.std.specs.Prelude.{◌≡◌};
+ghost use Rattle.std.specs.Counts.{IsPrefixLen};
 ghost use Rattle.std.specs.Io.{ReadsAtMost};
 
 use std::env::{Env, FillError};
@@ -109,7 +110,7 @@ fn read_open<R: Read>(
     name: &[u8],
     buf: &mut [u8],
 ) -> Input
-    ensures { result.bytes ≤ length buf.new }
+    ensures { IsPrefixLen result.bytes buf.new }
 {
     match read_all(input, buf) {
         Ok(bytes) => Input {
@@ -125,7 +126,7 @@ fn read_open<R: Read>(
 
 // Reads the file of that name.
 fn read_named(rt: &HostRuntime, program: &[u8], name: &[u8], buf: &mut [u8]) -> Input
-    ensures { result.bytes ≤ length buf.new }
+    ensures { IsPrefixLen result.bytes buf.new }
 {
     match open(rt, name) {
         Ok(mut file) => read_open(rt, program, &mut file, name, buf),
@@ -138,7 +139,7 @@ fn read_named(rt: &HostRuntime, program: &[u8], name: &[u8], buf: &mut [u8]) -> 
 
 // Reads the file that the first argument names.
 fn read_file(rt: &HostRuntime, program: &[u8], buf: &mut [u8]) -> Input
-    ensures { result.bytes ≤ length buf.new }
+    ensures { IsPrefixLen result.bytes buf.new }
 {
     let mut path = [0u8; ROOM];
     match rt.arg(1, &mut path) {
@@ -157,7 +158,7 @@ fn read_file(rt: &HostRuntime, program: &[u8], buf: &mut [u8]) -> Input
 
 // Puts the input's first bytes at the start of the buffer. 4,096 of them tell what a longer input holds as a form: no field lies beyond byte 628, and a byte follows either way.
 pub fn read_form(rt: &HostRuntime, program: &[u8], buf: &mut [u8]) -> Input
-    ensures { result.bytes ≤ length buf.new }
+    ensures { IsPrefixLen result.bytes buf.new }
 {
     if !has_argument(rt, 1) {
         return read_open(rt, program, &mut rt.stdin(), b"standard input", buf);
