@@ -58,7 +58,7 @@ extern "C" {
 #define WHEMDROSK_TRACE_BYTES(cycles, channels) ((size_t)(cycles) * (size_t)(channels) * WHEMDROSK_RECORD_BYTES)
 
 // The most stack that a call uses on x86-64, its return address included; what memcpy and memset use for themselves comes on top.
-#define WHEMDROSK_STACK_BYTES 15080
+#define WHEMDROSK_STACK_BYTES 15760
 
 // Why a call refuses. Checks are made in this order, and the first that fails is answered; 12, 13 and 17 are never answered here.
 enum whemdrosk_refusal {

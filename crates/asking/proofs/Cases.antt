@@ -7,6 +7,7 @@ use mathlib.Core.Bool.{Bool, true, false, cond, not, ◌&&◌, ◌||◌}
 use mathlib.Core.List.{List}
 use mathlib.Core.Logic.{inl, inr}
 use mathlib.Core.Option.{Option, none, some}
+use Rattle.std.proofs.Common.{Some, None}
 use native.Mathlib.Omega.{arith}
 use borrow.Author.Tests.{not-false, eq-eqb, lt-ltb, leb-true}
 use lib.Dec.{eqb, leb, ltb}
@@ -257,19 +258,19 @@ module _ (mask : Bool) (r : Reg) (x : ℕ → Sig) (v y : ℕ → Bool) where
   -- ## By kind
 
   -- no rule names a further channel: only at these kinds, and only so
-  pub no_rule_so : (K : Kind) → Sound K r → (q : Bool) (p b : ℕ) → ending_of K q b ≡ none → Asked K mask r x v y q p → Showing K → NoneLacks K → NoneWaits K → NoRuleAt K r x v y q p
-  no_rule_so (source xs) ok q p b e ask shows ins outs = none-some (sym e)
-  no_rule_so sink ok q p b e ask shows ins outs = none-some (sym e)
+  pub no_rule_so : (K : Kind) → Sound K r → (q : Bool) (p b : ℕ) → ending_of K q b ≡ None → Asked K mask r x v y q p → Showing K → NoneLacks K → NoneWaits K → NoRuleAt K r x v y q p
+  no_rule_so (source xs) ok q p b e ask shows ins outs = cc
+  no_rule_so sink ok q p b e ask shows ins outs = cc
   no_rule_so (operator o) ok q p b e ask shows ins outs = operator_never o q p ask shows ins outs
   no_rule_so (constant o c) ok q p b e ask shows ins outs = constant_never o c q p ask shows ins outs
   no_rule_so (fork m) ok q p b e ask shows ins outs = fork_so m q p ask shows ins outs
   no_rule_so (mux m) ok q p b e ask shows ins outs = mux_so m ok q p ask shows ins outs
   no_rule_so (demux m) ok q p b e ask shows ins outs = demux_so m ok q p ask shows ins outs
   no_rule_so (merge m cs) ok q p b e ask shows ins outs = merge-so m cs ok q p ask shows ins outs
-  no_rule_so (buffer o) ok true p b e ask shows ins outs = none-some (sym e)
+  no_rule_so (buffer o) ok true p b e ask shows ins outs = cc
   no_rule_so (buffer o) ok false p b e ask shows ins outs = buffer_never o p ask shows outs
   no_rule_so control ok true p b e ask shows ins outs = control_never p ask shows ins
-  no_rule_so control ok false p b e ask shows ins outs = none-some (sym e)
+  no_rule_so control ok false p b e ask shows ins outs = cc
   no_rule_so unused ok q p b e ask shows ins outs = unused_never q p ask
 
   -- the other endings are what their names say
@@ -281,20 +282,20 @@ module _ (mask : Bool) (r : Reg) (x : ℕ → Sig) (v y : ℕ → Bool) where
   unready true p ask = absurd (omega (arith, ask.0))
   unready false p ask = ask.2
 
-  same_ending : (K : Kind) (q : Bool) (p : ℕ) (a e : Ending) → some a ≡ some e → EndsAt K mask r x v y q p a → EndsAt K mask r x v y q p e
+  same_ending : (K : Kind) (q : Bool) (p : ℕ) (a e : Ending) → Some a ≡ Some e → EndsAt K mask r x v y q p a → EndsAt K mask r x v y q p e
   same_ending K q p a e d h = let z : a ≡ e = cc in subst (EndsAt K mask r x v y q p) z h
 
-  pub ends_so : (K : Kind) (q : Bool) (p b : ℕ) (e : Ending) → ending_of K q b ≡ some e → Asked K mask r x v y q p → Showing K → EndsAt K mask r x v y q p e
+  pub ends_so : (K : Kind) (q : Bool) (p b : ℕ) (e : Ending) → ending_of K q b ≡ Some e → Asked K mask r x v y q p → Showing K → EndsAt K mask r x v y q p e
   ends_so (source xs) q p b e d ask shows = same_ending (source xs) q p (IdleSource b) e d (xs, refl, idle xs q p ask shows)
   ends_so sink q p b e d ask shows = same_ending sink q p (UnreadySink b) e d (refl, unready q p ask)
-  ends_so (operator o) q p b e d ask shows = none-some d
-  ends_so (constant o c) q p b e d ask shows = none-some d
-  ends_so (fork m) q p b e d ask shows = none-some d
-  ends_so (mux m) q p b e d ask shows = none-some d
-  ends_so (demux m) q p b e d ask shows = none-some d
-  ends_so (merge m cs) q p b e d ask shows = none-some d
+  ends_so (operator o) q p b e d ask shows = cc
+  ends_so (constant o c) q p b e d ask shows = cc
+  ends_so (fork m) q p b e d ask shows = cc
+  ends_so (mux m) q p b e d ask shows = cc
+  ends_so (demux m) q p b e d ask shows = cc
+  ends_so (merge m cs) q p b e d ask shows = cc
   ends_so (buffer o) true p b e d ask shows = same_ending (buffer o) true p (EmptyBuffer b) e d (o, refl, refl, sym (shows p ask.0) ∙ ask.1)
-  ends_so (buffer o) false p b e d ask shows = none-some d
-  ends_so control true p b e d ask shows = none-some d
+  ends_so (buffer o) false p b e d ask shows = cc
+  ends_so control true p b e d ask shows = cc
   ends_so control false p b e d ask shows = same_ending control false p (FullControl b) e d (refl, refl, not-false (full r) ask.2)
-  ends_so unused q p b e d ask shows = none-some d
+  ends_so unused q p b e d ask shows = cc

@@ -1,8 +1,9 @@
 -- How a chain of waiting channels ends (change request 9, "The chain ends at"): the endings with their numbers, which of them a block of a kind gives, and what each of
 -- them says of the block that it names.
 -- Assumes nothing.
-use Rattle.std.specs.Prelude.{ℕ, ◌<◌, ◌≡◌, Bool, true, false, cond, ◌&&◌, List, ◌⊎◌, length}
-use Rattle.std.proofs.Math.Option.{Option, none, some}
+use Rattle.std.specs.Prelude.{ℕ, ◌<◌, ◌≡◌, Bool, true, false, cond, ◌&&◌, List, ◌⊎◌, length, Some, None}
+use Rattle.std.specs.Prelude.{Option as Answer}
+use Rattle.std.proofs.Math.Option.{Option}
 use Rattle.blocks.specs.Folds.{bit}
 use Rattle.blocks.specs.Kinds.{Kind, source, sink, operator, constant, fork, mux, demux, merge, buffer, control, unused}
 use Rattle.blocks.specs.Words.{reach}
@@ -12,43 +13,43 @@ use Rattle.blocks.specs.Asking.{needs, looks}
 use Rattle.blocks.specs.declared.Sig.{Sig}
 use Rattle.blocks.specs.declared.Reg.{Reg}
 use Rattle.asking.specs.declared.Ending.{Ending}
-use Rattle.asking.specs.declared.Ending.TheVariants.{Empty, IdleSource, UnreadySink, EmptyBuffer, FullControl, Circle, NoRule}
+use Rattle.asking.specs.declared.Ending.TheVariants.{IdleSource, UnreadySink, EmptyBuffer, FullControl, Circle, NoRule}
 
 -- "an idle source, an unready sink, an empty data buffer asked for a word, a full control buffer asked for readiness": the ending at block b that is asked for a word
 -- (word true) or for readiness (word false). It is asked because of a channel that lacks just that, so that the source is idle, the sink unready, the data buffer empty
 -- and the control buffer full (`ends_so`, proofs/Cases.antt).
-abbrev pub ending_of : Kind → Bool → ℕ → Option Ending
-ending_of (source xs) word b = some (IdleSource b)
-ending_of sink word b = some (UnreadySink b)
-ending_of (operator o) word b = none
-ending_of (constant o c) word b = none
-ending_of (fork m) word b = none
-ending_of (mux m) word b = none
-ending_of (demux m) word b = none
-ending_of (merge m cs) word b = none
-ending_of (buffer o) word b = cond word (some (EmptyBuffer b)) none
-ending_of control word b = cond word none (some (FullControl b))
-ending_of unused word b = none
+abbrev pub ending_of : Kind → Bool → ℕ → Answer Ending
+ending_of (source xs) word b = Some (IdleSource b)
+ending_of sink word b = Some (UnreadySink b)
+ending_of (operator o) word b = None
+ending_of (constant o c) word b = None
+ending_of (fork m) word b = None
+ending_of (mux m) word b = None
+ending_of (demux m) word b = None
+ending_of (merge m cs) word b = None
+ending_of (buffer o) word b = cond word (Some (EmptyBuffer b)) None
+ending_of control word b = cond word None (Some (FullControl b))
+ending_of unused word b = None
 
--- ## Numbers: 0 for an empty chain, then in the request's order; and the block that an ending names, or for a circle the channel met again
+-- ## Numbers of a chain's ending: 0 for an empty chain, which has none, then in the request's order; and the block that an ending names, or for a circle the channel met again
 
-abbrev pub ending_number : Ending → ℕ
-ending_number Empty = 0
-ending_number (IdleSource b) = 1
-ending_number (UnreadySink b) = 2
-ending_number (EmptyBuffer b) = 3
-ending_number (FullControl b) = 4
-ending_number (Circle c) = 5
-ending_number (NoRule b) = 6
+abbrev pub ending_number : Answer Ending → ℕ
+ending_number None = 0
+ending_number (Some (IdleSource b)) = 1
+ending_number (Some (UnreadySink b)) = 2
+ending_number (Some (EmptyBuffer b)) = 3
+ending_number (Some (FullControl b)) = 4
+ending_number (Some (Circle c)) = 5
+ending_number (Some (NoRule b)) = 6
 
-abbrev pub ending_at : Ending → ℕ
-ending_at Empty = 0
-ending_at (IdleSource b) = b
-ending_at (UnreadySink b) = b
-ending_at (EmptyBuffer b) = b
-ending_at (FullControl b) = b
-ending_at (Circle c) = c
-ending_at (NoRule b) = b
+abbrev pub ending_at : Answer Ending → ℕ
+ending_at None = 0
+ending_at (Some (IdleSource b)) = b
+ending_at (Some (UnreadySink b)) = b
+ending_at (Some (EmptyBuffer b)) = b
+ending_at (Some (FullControl b)) = b
+ending_at (Some (Circle c)) = c
+ending_at (Some (NoRule b)) = b
 
 -- ## What an ending says of its block
 -- r: the block's registers. x: what its inputs show. v, y: whether its outputs are valid and ready. word, p: it was asked for the word of its output p (word true), or for
@@ -82,7 +83,6 @@ NoRuleAt unused r x v y word p = ⊥
 
 -- an idle source, an unready sink, an empty data buffer, a full control buffer, or one of the above; mask: a source's offer bit or a sink's ready bit
 abbrev pub EndsAt : Kind → Bool → Reg → (ℕ → Sig) → (ℕ → Bool) → (ℕ → Bool) → Bool → ℕ → Ending → Type 0
-EndsAt K mask r x v y word p Empty = ⊥
 EndsAt K mask r x v y word p (IdleSource b) = (xs : List ℕ) × (K ≡ source xs) × (offers (length xs) r mask ≡ false)
 EndsAt K mask r x v y word p (UnreadySink b) = (K ≡ sink) × (mask ≡ false)
 EndsAt K mask r x v y word p (EmptyBuffer b) = (o : Option ℕ) × (K ≡ buffer o) × (word ≡ true) × (full r ≡ false)

@@ -1,7 +1,6 @@
 -- What a block answers that is asked because of a waiting channel (change request 9): which channel is asked next, or how the chain ends.
 -- Assumes nothing.
-use Rattle.std.specs.Prelude.{ℕ, Bool, true, false}
-use Rattle.std.proofs.Math.Option.{Option, none, some}
+use Rattle.std.specs.Prelude.{ℕ, Bool, true, false, Option, Some, None}
 use Rattle.blocks.specs.Kinds.{Kind}
 use Rattle.blocks.specs.Asking.{Handed, to_input, to_output, to_nobody, handed}
 use Rattle.blocks.specs.declared.Sig.{Sig}
@@ -20,8 +19,8 @@ goes_to inp out b (to_output j) = Ready (out j)
 goes_to inp out b to_nobody = End (NoRule b)
 
 abbrev pub end_else : Option Ending → Next → Next
-end_else (some e) n = End e
-end_else none n = n
+end_else (Some e) n = End e
+end_else None n = n
 
 -- the answer that asks channel n for its word (true) or for readiness (false)
 abbrev pub asks : Bool → ℕ → Next

@@ -1,23 +1,25 @@
-// Questions to a block (change request 9), over rows and signals in arrays: whom a block that is asked for a word or for readiness hands the question on to, and how a chain of waiting
-// channels ends there.
+// Questions to a block (change request 9), over a net and its signals: whom a block that is asked for a word or for readiness hands the question on to, and how a chain of
+// waiting channels ends there.
 #![tactic(auto)]
 
-ghost use Rattle.std.specs.Prelude.{◌≡◌, true, false, ℕ, ◌+◌, ◌≤◌, ◌<◌};
+ghost use Rattle.std.specs.Prelude.{◌≡◌, true, [], ℕ, ◌+◌, ◌≤◌, ◌<◌, MatchOption};
+ghost use Rattle.std.proofs.Math.Option.{none, some};
 ghost use Rattle.blocks.specs.Folds.{lowest};
+ghost use Rattle.blocks.specs.Kinds.{kind_of};
 ghost use Rattle.blocks.specs.Ports.{m_ok};
 ghost use Rattle.blocks.specs.Words.{reach};
-ghost use Rattle.blocks.specs.Equations.{recorded};
-ghost use Rattle.ports.specs.Places.{sig_at, ready_at, Ported};
+ghost use Rattle.blocks.specs.declared.Reg.{Reg};
+ghost use Rattle.ports.specs.Places.{sig_at, ready_at};
 ghost use Rattle.ports.specs.Worked.{ins_show};
-ghost use Rattle.asking.specs.Rows.{chosen_no, needs_no, looks_no, counts, wanting, takes_it, handed_by, handed_no, stops_no, stop_no, next_by, Row};
-ghost use Rattle.asking.specs.Endings.{ending_number, ending_at};
+ghost use Rattle.asking.specs.Rows.{told, chosen_no, needs_no, looks_no, counts, wanting, takes_it, handed_by, handed_no, next_by, Row};
+ghost use Rattle.asking.specs.Endings.{ending_number, ending_at, ending_of};
 
-use blocks::Ports;
+use blocks::{Kind, Net, Ports, Sig, State};
+use ports::Wired;
 
-// How a chain ends: at a block, or where a channel is met again. `Empty`: there is no chain.
-#[derive(Clone, Copy)]
+// How a chain ends: at a block, or where a channel is met again.
+#[derive(Clone, Copy, PartialEq, Eq)]
 pub enum Ending {
-    Empty,
     IdleSource(u8),
     UnreadySink(u8),
     EmptyBuffer(u8),
@@ -34,110 +36,97 @@ pub enum Next {
     End(Ending),
 }
 
-// An ending's number: 0 for none, and 1 to 6 in the request's order.
-pub fn number_of(ending: Ending) -> u8
+// An ending's number: 0 where there is no chain, and 1 to 6 in the request's order.
+// stays: the cases have a block beside them, so that no cast gives their number.
+pub fn number_of(ending: Option<Ending>) -> u8
     ensures { result ≡ ending_number ending }
 {
     match ending {
-        Ending::Empty => 0,
-        Ending::IdleSource(_) => 1,
-        Ending::UnreadySink(_) => 2,
-        Ending::EmptyBuffer(_) => 3,
-        Ending::FullControl(_) => 4,
-        Ending::Circle(_) => 5,
-        Ending::NoRule(_) => 6,
+        None => 0,
+        Some(Ending::IdleSource(_)) => 1,
+        Some(Ending::UnreadySink(_)) => 2,
+        Some(Ending::EmptyBuffer(_)) => 3,
+        Some(Ending::FullControl(_)) => 4,
+        Some(Ending::Circle(_)) => 5,
+        Some(Ending::NoRule(_)) => 6,
     }
 }
 
-// The block that an ending names, or for a circle the channel met again.
-pub fn named_by(ending: Ending) -> u8
+// The block that an ending names, or for a circle the channel met again; 0 where there is no chain.
+// stays: one pattern over all cases is the shortest way to what they have in common.
+pub fn named_by(ending: Option<Ending>) -> u8
     ensures { result ≡ ending_at ending }
 {
     match ending {
-        Ending::Empty => 0,
-        Ending::IdleSource(b) => b,
-        Ending::UnreadySink(b) => b,
-        Ending::EmptyBuffer(b) => b,
-        Ending::FullControl(b) => b,
-        Ending::Circle(c) => c,
-        Ending::NoRule(b) => b,
+        None => 0,
+        Some(
+            Ending::IdleSource(at)
+            | Ending::UnreadySink(at)
+            | Ending::EmptyBuffer(at)
+            | Ending::FullControl(at)
+            | Ending::Circle(at)
+            | Ending::NoRule(at),
+        ) => at,
     }
 }
 
-// The port that the select word of a mux or a demux names, plus 1: of a mux this is the number of the selected input.
-fn selected(m: u8, base: usize, rows: &[u8; 768], valid: &[bool; 128], word: &[u32; 128]) -> u32
-    requires ported { Ported rows.now base }
-    requires m_nonzero { (0 < m) × (m ≤ 8) }
-    ensures { result ≡ recorded (reach m (ins_show rows.now base (sig_at valid.now word.now) 0).word) }
+// The port that the select word of a mux or a demux names: of a mux, a data input.
+fn selected(at: Wired, signals: &[Sig; 128]) -> u32
+    requires { (0 < at.block.now.m) × (at.block.now.m ≤ 8) }
+    ensures { let block = at.entry.block.now in reach block.m (ins_show block (sig_at signals.now) 0).word ≡ some result }
 {
-    let s = ports::look(ports::place(rows, base, 0), valid, word);
-    blocks::words::port_of(m as u32, s.word) + 1
+    let s = signals[at.place(0)];
+    blocks::words::port_of(at.block.m as u32, s.word)
 }
 
-// The port that a mux, a demux or a merge has chosen, plus 1; 0 for a merge without a winner, and for other kinds. held is a merge's recorded winner.
-fn chosen_of(
-    kind: u8,
-    m: u8,
-    held: u32,
-    base: usize,
-    rows: &[u8; 768],
-    valid: &[bool; 128],
-    word: &[u32; 128],
-) -> u32
-    requires ported { Ported rows.now base }
-    requires m_value { m_ok kind m ≡ true }
-    requires held_le_m { kind ≡ 7 → held ≤ m }
-    ensures { result ≡ chosen_no kind m held (ins_show rows.now base (sig_at valid.now word.now)) }
+// The port that a mux, a demux or a merge has chosen; none for a merge without a winner, and for other kinds. held is a merge's recorded winner.
+fn chosen_of(at: Wired, held: u32, signals: &[Sig; 128]) -> Option<u32>
+    requires m_value { m_ok at.block.now.kind at.block.now.m ≡ true }
+    requires held_le_m { at.block.now.kind ≡ 7 → held ≤ at.block.now.m }
+    ensures { let block = at.entry.block.now in result ≡ told (chosen_no block.kind block.m held (ins_show block (sig_at signals.now))) }
 {
-    if kind == 7 {
-        return ports::forward::winner_of(m, held, base, rows, valid);
+    let kind = at.block.kind;
+    if kind == Kind::Merge as u8 {
+        ports::forward::winner_of(at, held, signals).checked_sub(1)
+    } else if kind == Kind::Mux as u8 || kind == Kind::Demux as u8 {
+        Some(selected(at, signals))
+    } else {
+        None
     }
-    if kind == 5 {
-        return selected(m, base, rows, valid, word);
-    }
-    if kind == 6 {
-        return selected(m, base, rows, valid, word);
-    }
-    0
 }
 
-// Whether input i is needed, where ch is the chosen port plus 1. The inputs of a mux are its select and then the ports that a select word can name.
-fn needs_input(kind: u8, ch: u32, i: u32) -> bool
-    requires { i < 10 }
-    ensures { result ≡ needs_no kind ch i }
+// Whether input i is needed. The inputs of a mux are its select and then the ports that a select word can name.
+fn needs_input(kind: u8, chosen: Option<u32>, i: u32) -> bool
+    ensures { result ≡ needs_no kind chosen i }
 {
-    if kind == 5 {
-        if i == 0 {
-            return true;
-        }
-        return i == ch;
+    if kind == Kind::Mux as u8 {
+        i == 0 || chosen == Some(i - 1)
+    } else if kind == Kind::Merge as u8 {
+        chosen == Some(i)
+    } else {
+        true
     }
-    if kind == 7 {
-        return i + 1 == ch;
-    }
-    true
 }
 
 // Whether output j is looked at.
-fn looks_at(kind: u8, ch: u32, j: u32) -> bool
-    requires { j < 10 }
-    ensures { result ≡ looks_no kind ch j }
+fn looks_at(kind: u8, chosen: Option<u32>, j: u32) -> bool
+    ensures { result ≡ looks_no kind chosen j }
 {
-    if kind == 6 {
-        return j + 1 == ch;
+    if kind == Kind::Demux as u8 {
+        chosen == Some(j)
+    } else {
+        true
     }
-    true
 }
 
 // Whether input i is needed (side true), or output i looked at.
-fn counted(side: bool, kind: u8, ch: u32, i: u32) -> bool
-    requires { i < 10 }
-    ensures { result ≡ counts side kind ch i }
+fn counted(side: bool, kind: u8, chosen: Option<u32>, i: u32) -> bool
+    ensures { result ≡ counts side kind chosen i }
 {
     if side {
-        needs_input(kind, ch, i)
+        needs_input(kind, chosen, i)
     } else {
-        looks_at(kind, ch, i)
+        looks_at(kind, chosen, i)
     }
 }
 
@@ -145,166 +134,118 @@ fn counted(side: bool, kind: u8, ch: u32, i: u32) -> bool
 fn wants(side: bool, v: bool, y: bool) -> bool
     ensures { result ≡ wanting side v y }
 {
-    if side {
-        return !v;
-    }
-    if v { !y } else { false }
+    if side { !v } else { v && !y }
 }
 
 // Whether the question can be handed to port i of a side, whose ports begin at port `first`.
 fn takes_it(
     side: bool,
-    kind: u8,
-    ch: u32,
+    chosen: Option<u32>,
     first: usize,
     i: u32,
-    base: usize,
-    rows: &[u8; 768],
-    valid: &[bool; 128],
+    at: Wired,
+    signals: &[Sig; 128],
     ready: &[bool; 128],
 ) -> bool
-    requires ported { Ported rows.now base }
-    requires i_bound { first + i < 10 }
-    ensures { result ≡ takes_it side kind ch first rows.now base valid.now ready.now i }
+    requires { first + i < 10 }
+    ensures { result ≡ takes_it side chosen first at.entry.block.now signals.now ready.now i }
 {
-    let c = ports::place(rows, base, first + i as usize);
-    blocks::cycle::both(counted(side, kind, ch, i), wants(side, valid[c], ready[c]))
+    let c = at.place(first + i as usize);
+    counted(side, at.block.kind, chosen, i) & wants(side, signals[c].valid, ready[c])
 }
 
-// The first port, of n, to which the question can be handed, plus 1; 0 for none.
+// The first port, of n, to which the question can be handed.
 fn first_of(
     side: bool,
     n: u8,
-    kind: u8,
-    ch: u32,
+    chosen: Option<u32>,
     first: usize,
-    base: usize,
-    rows: &[u8; 768],
-    valid: &[bool; 128],
+    at: Wired,
+    signals: &[Sig; 128],
     ready: &[bool; 128],
-) -> u32
-    requires ported { Ported rows.now base }
-    requires n_bound { first + n ≤ 10 }
-    ensures value { result ≡ recorded (lowest (takes_it side kind ch first rows.now base valid.now ready.now) n) }
-    ensures upper_bound { result ≤ n }
+) -> Option<u32>
+    requires { first + n ≤ 10 }
+    ensures { let found = lowest (takes_it side chosen first at.entry.block.now signals.now ready.now) n in MatchOption result (found ≡ none) (λ i. (found ≡ some i) × (i < n)) }
 {
-    let k = n as u32;
-    let mut i: u32 = 0;
-    while i < k {
-        if takes_it(side, kind, ch, first, i, base, rows, valid, ready) {
-            return i + 1;
+    for i in 0..n as u32 {
+        if takes_it(side, chosen, first, i, at, signals, ready) {
+            return Some(i);
         }
-        i += 1;
     }
-    0
+    None
 }
 
-// Hands the question to the first input of ins that lacks V, else to the first output of outs that is V but not R.
+// Hands the question to the first input that lacks V, else to the first output that is V but not R.
 fn hand_to(
     b: u8,
-    ins: u8,
-    outs: u8,
-    kind: u8,
-    ch: u32,
-    base: usize,
-    rows: &[u8; 768],
-    valid: &[bool; 128],
+    ports: Ports,
+    chosen: Option<u32>,
+    at: Wired,
+    signals: &[Sig; 128],
     ready: &[bool; 128],
 ) -> Next
-    requires ported { Ported rows.now base }
-    requires outs_bound { ins + outs ≤ 10 }
-    ensures { result ≡ handed_by b ins outs kind ch rows.now base valid.now ready.now }
+    requires { ports.inputs + ports.outputs ≤ 10 }
+    ensures { result ≡ handed_by b ports chosen at.entry.block.now signals.now ready.now }
 {
-    let i = first_of(true, ins, kind, ch, 0, base, rows, valid, ready) as usize;
-    if 0 < i {
-        return Next::Word(rows[base + (i - 1)]);
+    if let Some(i) = first_of(true, ports.inputs, chosen, 0, at, signals, ready) {
+        return Next::Word(at.block.ports[i as usize]);
     }
-    let first = ins as usize;
-    let j = first_of(false, outs, kind, ch, first, base, rows, valid, ready) as usize;
-    if 0 < j {
-        return Next::Ready(rows[base + (first + (j - 1))]);
+    let first = ports.inputs as usize;
+    if let Some(j) = first_of(false, ports.outputs, chosen, first, at, signals, ready) {
+        // stays: no packed array: the outputs of a block stand behind its inputs.
+        return Next::Ready(at.block.ports[first + j as usize]);
     }
     Next::End(Ending::NoRule(b))
 }
 
 // Hands the question on, by the block's kind.
-fn hand_on(
-    b: u8,
-    kind: u8,
-    m: u8,
-    held: u32,
-    base: usize,
-    rows: &[u8; 768],
-    valid: &[bool; 128],
-    word: &[u32; 128],
-    ready: &[bool; 128],
-) -> Next
-    requires ported { Ported rows.now base }
-    requires m_value { m_ok kind m ≡ true }
-    requires held_le_m { kind ≡ 7 → held ≤ m }
-    ensures { (marks : ℕ)
-        → result ≡ handed_no b kind m (record { word = held; marks = marks }) rows.now base (sig_at valid.now word.entry.now) (ready_at ready.now) }
+fn hand_on(b: u8, at: Wired, held: u32, signals: &[Sig; 128], ready: &[bool; 128]) -> Next
+    requires m_value { m_ok at.block.now.kind at.block.now.m ≡ true }
+    requires held_le_m { at.block.now.kind ≡ 7 → held ≤ at.block.now.m }
+    ensures { (marks : ℕ) → result ≡ handed_no b at.entry.block.now (record { word = held; marks = marks }) (sig_at signals.now) (ready_at ready.now) }
 {
-    let ch = chosen_of(kind, m, held, base, rows, valid, word);
-    let p = blocks::kinds::ports_of(kind, m);
-    match p {
-        Ports::Count(ins, outs) => hand_to(b, ins, outs, kind, ch, base, rows, valid, ready),
-        Ports::Unused => Next::End(Ending::NoRule(b)),
+    let chosen = chosen_of(at, held, signals);
+    match blocks::kinds::ports_of(at.block.kind, at.block.m) {
+        Some(ports) => hand_to(b, ports, chosen, at, signals, ready),
+        None => Next::End(Ending::NoRule(b)),
     }
 }
 
-// Whether a chain ends at a block of this kind that is asked for a word (question true) or for readiness.
-fn stops(kind: u8, question: bool) -> bool
-    ensures { result ≡ stops_no kind question }
+// How a chain ends at block b of this kind that is asked for a word (question true) or for readiness; none where the question is handed on.
+fn ending_of(kind: u8, question: bool, b: u8) -> Option<Ending>
+    ensures { (m value : ℕ) → result ≡ ending_of (kind_of kind m value []) question b }
 {
-    if kind <= 1 {
-        return true;
+    if kind == Kind::Source as u8 {
+        Some(Ending::IdleSource(b))
+    } else if kind == Kind::Sink as u8 {
+        Some(Ending::UnreadySink(b))
+    } else if question && (kind == Kind::Buffer as u8 || kind == Kind::FullBuffer as u8) {
+        Some(Ending::EmptyBuffer(b))
+    } else if !question && kind == Kind::Control as u8 {
+        Some(Ending::FullControl(b))
+    } else {
+        None
     }
-    if question {
-        if kind == 8 {
-            return true;
-        }
-        return kind == 9;
-    }
-    kind == 10
-}
-
-// How a chain ends that stops at block b.
-fn stop(kind: u8, b: u8) -> Ending
-    ensures { result ≡ stop_no kind b }
-{
-    if kind == 0 {
-        return Ending::IdleSource(b);
-    }
-    if kind == 1 {
-        return Ending::UnreadySink(b);
-    }
-    if kind == 10 {
-        return Ending::FullControl(b);
-    }
-    Ending::EmptyBuffer(b)
 }
 
 // What block b answers that is asked for a word (question true) or for readiness.
 pub fn asked(
     question: bool,
     b: u8,
-    rows: &[u8; 768],
-    words: &[u32; 64],
-    marks: &[u8; 64],
-    valid: &[bool; 128],
-    word: &[u32; 128],
+    net: &Net,
+    state: &State,
+    signals: &[Sig; 128],
     ready: &[bool; 128],
 ) -> Next
-    requires { Row rows.now words.now marks.now b }
-    ensures { result ≡ next_by rows.now words.now marks.now valid.now word.now ready.now question b }
+    requires { Row net.now state.now b }
+    ensures { result ≡ next_by net.now state.now signals.now ready.now question b }
 {
-    let base = b as usize * 12;
-    let kind = rows[base + 10];
-    if stops(kind, question) {
-        return Next::End(stop(kind, b));
+    let block = &net.blocks[b as usize];
+    match ending_of(block.kind, question, b) {
+        Some(ending) => Next::End(ending),
+        None => {
+            let held = state.words[b as usize];
+            hand_on(b, Wired { block }, held, signals, ready)
+        }
     }
-    let m = rows[base + 11];
-    let held = words[b as usize];
-    hand_on(b, kind, m, held, base, rows, valid, word, ready)
 }

@@ -14,12 +14,12 @@ use lib.ListN.{length, take}
 use lib.Seq.{take-nil}
 use Rattle.blocks.proofs.Folds.{clash}
 use Rattle.blocks.proofs.Options.{test}
-use Rattle.nets.specs.declared.Net.{Net}
+use Rattle.blocks.specs.declared.Net.{Net}
 use Rattle.nets.proofs.Decided.{accepted}
 use Rattle.cycles.specs.State.{shape_ok}
 use Rattle.cycles.specs.Streams.{ends_fit}
 use Rattle.cycles.specs.Step.{refusal_by}
-use Rattle.cycles.specs.declared.State.{State}
+use Rattle.blocks.specs.declared.State.{State}
 use Rattle.cycles.specs.declared.Stepped.{Stepped}
 use Rattle.queue.specs.Delivered.{Input}
 use Rattle.sim.specs.Calls.{step_of}

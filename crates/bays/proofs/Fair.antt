@@ -9,7 +9,7 @@ use native.Mathlib.Decide.{ℕ_discrete}
 use native.Mathlib.Omega.{arith}
 use lib.ListN.{length, take}
 use Rattle.blocks.specs.Folds.{bit}
-use Rattle.nets.specs.declared.Net.{Net}
+use Rattle.blocks.specs.declared.Net.{Net}
 use Rattle.bays.specs.Calls.{first_wanting, next_bay}
 use Rattle.bays.specs.Promised.{step, next, answer, CallOn, on, named, Wants}
 use Rattle.bays.specs.declared.Bays.{Bays}

@@ -9,7 +9,7 @@ use native.Mathlib.Omega.{arith}
 use borrow.Author.Tests.{eqb-true, eqb-false, eq-eqb, ne_eqb, leb-true, leb-false, le-leb, lt-leb}
 use lib.Dec.{leb, eqb}
 use Rattle.blocks.proofs.Options.{test}
-use Rattle.nets.specs.declared.Net.{Net}
+use Rattle.blocks.specs.declared.Net.{Net}
 use Rattle.cycles.specs.declared.Stepped.{Stepped}
 use Rattle.sim.specs.Calls.{step_of}
 use Rattle.bays.specs.Calls.{state_at, refusal_bay, refused_bay, served_bay, step_bay}

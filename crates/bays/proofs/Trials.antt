@@ -16,14 +16,14 @@ use Rattle.blocks.specs.Ports.{ports_of}
 use Rattle.blocks.specs.Words.{operate}
 use Rattle.nets.specs.Block.{ins, outs, on_side}
 use Rattle.nets.specs.Net.{kind_count, place_of}
-use Rattle.nets.specs.declared.Net.{Net}
+use Rattle.blocks.specs.declared.Net.{Net}
 use Rattle.nets.proofs.Decided.{accepted}
 use Rattle.nets.proofs.Trials.{line}
 use Rattle.cycles.specs.Streams.{ends_fit}
 use Rattle.cycles.specs.Cycle.{signals}
 use Rattle.cycles.specs.State.{tab, shape_ok}
 use Rattle.cycles.specs.Step.{refusal_by, step_by}
-use Rattle.cycles.specs.declared.State.{State}
+use Rattle.blocks.specs.declared.State.{State}
 use Rattle.cycles.specs.declared.Stepped.{Stepped}
 use Rattle.queue.specs.Machine.{put_by}
 use Rattle.queue.specs.Delivered.{delivered, choices}

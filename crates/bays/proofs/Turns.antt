@@ -18,7 +18,7 @@ use Rattle.blocks.proofs.Bits.{bit-zero, bit_half, bit-bits, bits_same}
 use Rattle.blocks.proofs.Folds.{clash}
 use Rattle.blocks.proofs.Options.{test}
 use Rattle.blocks.proofs.Local.{lowest-below}
-use Rattle.nets.specs.declared.Net.{Net}
+use Rattle.blocks.specs.declared.Net.{Net}
 use Rattle.cycles.specs.declared.Stepped.{Stepped}
 use Rattle.bays.specs.Calls.{step_bay, asked, wants_at, bay_no, first_wanting, no_bay, serve_next, next_bay}
 use Rattle.bays.specs.Promised.{Call, step, next, answer}

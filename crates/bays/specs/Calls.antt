@@ -4,8 +4,8 @@
 use Rattle.std.specs.Prelude.{ℕ, ◌+◌, ◌*◌, ◌%◌, Bool, cond, List, [], leb, eqb, get_or, set, replicate}
 use Rattle.std.proofs.Math.Option.{Option, none, some}
 use Rattle.blocks.specs.Folds.{lowest, bit}
-use Rattle.nets.specs.declared.Net.{Net}
-use Rattle.cycles.specs.declared.State.{State}
+use Rattle.blocks.specs.declared.Net.{Net}
+use Rattle.blocks.specs.declared.State.{State}
 use Rattle.cycles.specs.declared.Stepped.{Stepped}
 use Rattle.sim.specs.Calls.{fresh_of, step_of}
 use Rattle.bays.specs.declared.Bays.{Bays}

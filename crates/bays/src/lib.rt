@@ -5,10 +5,15 @@ ghost use Rattle.std.specs.Prelude.{◌≡◌, ◌<◌};
 ghost use Rattle.blocks.specs.Folds.{bit};
 ghost use Rattle.bays.specs.Calls.{refusal_bay, refused_bay, served_bay, fresh_bays, step_bay, first_wanting, no_bay, turned_to, next_bay};
 
+use blocks::Refusal;
 use cycles::{State, Stepped};
 use nets::Net;
 
+// How many bays there are.
+const BAYS: u8 = 4;
+
 // What `next` names where it serves no bay.
+// stays: the answer of `next` names no bay by this number (`no_bay`, `next_bay`).
 const NO_BAY: u8 = 4;
 
 // A mask of bays is looked at below this number: its four lowest bits.
@@ -24,6 +29,7 @@ pub struct Bays {
 // What `fresh_bays` returns: its refusal, or 0, and the record.
 #[derive(Clone, Copy)]
 pub struct FreshBays {
+    // stays: what stands beside a refusal is promised too (`fresh_bays`: a zero record).
     pub refusal: u8,
     pub bays: Bays,
 }
@@ -31,6 +37,7 @@ pub struct FreshBays {
 // What a bay's step returns: its refusal, or 0; the record; a delivery mark and the word for each channel, zero where nothing moved.
 #[derive(Clone, Copy)]
 pub struct BayStepped {
+    // stays: what stands beside a refusal is promised too (`step_bay`: the record handed in, zeros).
     pub refusal: u8,
     pub bays: Bays,
     pub delivered: [u8; 128],
@@ -49,9 +56,10 @@ pub fn fresh_bays(net: Net) -> FreshBays
     ensures { result ≡ fresh_bays net }
 {
     let fresh = sim::step::fresh(net);
-    let state = fresh.state;
-    let states = [state; 4];
-    let bays = Bays { states, turn: 0 };
+    let bays = Bays {
+        states: [fresh.state; 4],
+        turn: 0,
+    };
     FreshBays {
         refusal: fresh.refusal,
         bays,
@@ -62,11 +70,11 @@ pub fn fresh_bays(net: Net) -> FreshBays
 fn refusal_bay(turn: u8, own: u8) -> u8
     ensures { result ≡ refusal_bay turn own }
 {
-    if own == 12 {
-        return 12;
+    if own == Refusal::Net as u8 {
+        return own;
     }
-    if 4 <= turn {
-        return 13;
+    if BAYS <= turn {
+        return Refusal::State as u8;
     }
     own
 }
@@ -84,22 +92,17 @@ fn refused_bay(refusal: u8, bays: Bays) -> BayStepped
 }
 
 // The cycle of bay k: its state moves, with its count. The turn stays.
-fn served_bay(bays: Bays, k: usize, step: Stepped) -> BayStepped
+fn served_bay(mut bays: Bays, k: usize, step: Stepped) -> BayStepped
     requires { k < 4 }
     ensures { result ≡ served_bay bays k step }
 {
-    let mut states = bays.states;
     let after = step.state;
-    states[k] = after;
-    let moved = Bays {
-        states,
-        turn: bays.turn,
-    };
+    bays.states[k] = after;
     let delivered = step.delivered;
     let words = step.words;
     BayStepped {
         refusal: 0,
-        bays: moved,
+        bays,
         delivered,
         words,
     }
@@ -108,6 +111,7 @@ fn served_bay(bays: Bays, k: usize, step: Stepped) -> BayStepped
 // One cycle of a bay: the record after it, and what each channel delivered. Refused in this order: 21 (the bay's number), 12 (the net), 13 (the turn, or the bay's own state), 14
 // (the ends), 16 (the bay's own count); then the record handed in comes back, and nothing is delivered. The turn stays, served or refused. The states of the other bays are not
 // looked at.
+// stays: the parameters of a public call stay as they were.
 pub fn step_bay(
     net: Net,
     bays: Bays,
@@ -119,8 +123,8 @@ pub fn step_bay(
 ) -> BayStepped
     ensures { result ≡ step_bay net bays bay stream.now ends.now offer ready }
 {
-    if 4 <= bay {
-        return refused_bay(21, bays);
+    if BAYS <= bay {
+        return refused_bay(Refusal::Bay as u8, bays);
     }
     let k = bay as usize;
     let state = bays.states[k];
@@ -144,13 +148,11 @@ fn wants(k: u32, want: u32) -> bool
 fn first_wanting(turn: u8, want: u32) -> u8
     ensures { result ≡ first_wanting turn want }
 {
-    let mut i: u32 = 0;
-    while i < 4 {
+    for i in 0..4 {
         let k = (turn as u32 + i) % 4;
         if wants(k, want) {
             return k as u8;
         }
-        i += 1;
     }
     NO_BAY
 }
@@ -159,35 +161,25 @@ fn first_wanting(turn: u8, want: u32) -> u8
 fn no_bay(refusal: u8, bays: Bays) -> Turned
     ensures { result ≡ no_bay refusal bays }
 {
-    let step = refused_bay(refusal, bays);
-    Turned { bay: NO_BAY, step }
+    Turned {
+        bay: NO_BAY,
+        step: refused_bay(refusal, bays),
+    }
 }
 
 // A bay was served, refused or not: the bay after it is asked first from now on.
-fn turned_to(bay: u8, step: BayStepped) -> Turned
+fn turned_to(bay: u8, mut step: BayStepped) -> Turned
     requires { bay < 4 }
     ensures { result ≡ turned_to bay step }
 {
-    let before = step.bays;
-    let states = before.states;
-    let bays = Bays {
-        states,
-        turn: (bay + 1) % 4,
-    };
-    let delivered = step.delivered;
-    let words = step.words;
-    let after = BayStepped {
-        refusal: step.refusal,
-        bays,
-        delivered,
-        words,
-    };
-    Turned { bay, step: after }
+    step.bays.turn = (bay + 1) % BAYS;
+    Turned { bay, step }
 }
 
 // One cycle of the first bay that wants one, from the turn on and going round: `step_bay` with that bay's masks, of which the offer is at twice its number and the ready mask after it.
 // Bit k of `want` says that bay k wants a cycle; bits beyond the four bays are ignored. In this order: where no bay wants one, nothing is refused and nothing changes; a turn beyond the
 // four bays is refused (13) and nothing changes; else the bay is named, its step reported, refused or not, and the bay after it has the turn.
+// stays: the parameters of a public call stay as they were.
 pub fn next(
     net: Net,
     bays: Bays,
@@ -199,13 +191,13 @@ pub fn next(
     ensures { result ≡ next_bay net bays stream.now ends.now masks.now want }
 {
     if want % BAY_MASKS == 0 {
+        // stays: 0 is no refusal.
         return no_bay(0, bays);
     }
-    let turn = bays.turn;
-    if 4 <= turn {
-        return no_bay(13, bays);
+    if BAYS <= bays.turn {
+        return no_bay(Refusal::State as u8, bays);
     }
-    let bay = first_wanting(turn, want);
+    let bay = first_wanting(bays.turn, want);
     let at = bay as usize * 2;
     let step = step_bay(net, bays, bay, stream, ends, masks[at], masks[at + 1]);
     turned_to(bay, step)

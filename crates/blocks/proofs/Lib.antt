@@ -1,7 +1,6 @@
 -- Laws of one block.
 pub mod Folds
 pub mod Bits
-pub mod Registers
 pub mod Options
 pub mod Local
 pub mod Turns

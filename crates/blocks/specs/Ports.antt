@@ -1,9 +1,8 @@
 -- Which m each kind takes, how many ports a block has, and which kinds have a value (document 01, "Blocks and ports" and "The stored form").
 -- Assumes nothing.
-use Rattle.std.specs.Prelude.{ℕ, ◌+◌, Bool, cond, ◌&&◌, ◌||◌, ◌==◌, nat_le}
+use Rattle.std.specs.Prelude.{ℕ, ◌+◌, Bool, cond, ◌&&◌, ◌||◌, ◌==◌, nat_le, Option, Some, None}
 use Rattle.blocks.specs.Kinds.{Kind, source, sink, operator, constant, fork, mux, demux, merge, buffer, control, unused}
 use Rattle.blocks.specs.declared.Ports.{Ports}
-use Rattle.blocks.specs.declared.Ports.TheVariants.{Count, Unused}
 
 -- the kind is at most 10, and m is in its range: an operation of 0 to 3 for kinds 2 and 3, 2 to 8 for kinds 4 to 7, else 0
 abbrev pub m_ok : ℕ → ℕ → Bool
@@ -28,17 +27,21 @@ outputs_of kind m =
     (cond (kind == 6) m
     (cond (kind == 7) 2 1)))
 
+-- both counts
+abbrev pub counts_of : ℕ → ℕ → Ports
+counts_of kind m = record { inputs = inputs_of kind m; outputs = outputs_of kind m }
+
 -- the port counts; an unused kind or m has none
-unfoldable pub ports_of : ℕ → ℕ → Ports
-ports_of kind m = cond (m_ok kind m) (Count (inputs_of kind m) (outputs_of kind m)) Unused
+unfoldable pub ports_of : ℕ → ℕ → Option Ports
+ports_of kind m = cond (m_ok kind m) (Some (counts_of kind m)) None
 
-abbrev pub input_count : Ports → ℕ
-input_count (Count i o) = i
-input_count Unused = 0
+abbrev pub input_count : Option Ports → ℕ
+input_count (Some p) = p.inputs
+input_count None = 0
 
-abbrev pub output_count : Ports → ℕ
-output_count (Count i o) = o
-output_count Unused = 0
+abbrev pub output_count : Option Ports → ℕ
+output_count (Some p) = p.outputs
+output_count None = 0
 
 -- an operator with a constant and a data buffer that starts full have a value
 abbrev pub has_value : ℕ → Bool

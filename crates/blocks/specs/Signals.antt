@@ -2,6 +2,7 @@
 -- Assumes nothing.
 use Rattle.std.specs.Prelude.{ℕ, Bool, false, cond, ◌==◌}
 use Rattle.std.proofs.Math.Option.{Option, none, some}
+use Rattle.blocks.specs.Folds.{one}
 use Rattle.blocks.specs.declared.Sig.{Sig}
 use Rattle.blocks.specs.declared.Reg.{Reg}
 
@@ -28,6 +29,10 @@ valid_at x i = (x i).valid
 -- registers that are zero
 abbrev pub empty : Reg
 empty = record { word = 0; marks = 0 }
+
+-- what a port showed, as a buffer's registers
+abbrev pub kept : Sig → Reg
+kept s = record { word = s.word; marks = one s.valid }
 
 -- marks 1: a source is held, a buffer is full
 abbrev pub full : Reg → Bool

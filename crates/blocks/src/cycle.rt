@@ -2,17 +2,11 @@
 ghost use Rattle.std.specs.Prelude.{◌≡◌, ℕ, ◌+◌, ◌*◌, ◌^◌, ◌<◌, ◌≤◌, Bool, true, false, not, ◌&&◌, ◌||◌, List, ◌==◌};
 ghost use Rattle.blocks.specs.Folds.{one, bit, bits};
 ghost use Rattle.blocks.specs.Kinds.{kind_of};
-ghost use Rattle.blocks.specs.Signals.{shown};
+ghost use Rattle.blocks.specs.Signals.{shown, kept};
 ghost use Rattle.blocks.specs.Equations.{offers, source_next, operator_out, constant_out, copy_out, gained, fork_ready, fork_next, mux_out, demux_out, report_of, merge_next, data_out, data_ready, data_next, control_out, control_ready, control_next, fresh_reg};
 
 use crate::words::compute;
-use crate::{Reg, Sig};
-
-pub fn both(a: bool, b: bool) -> bool
-    ensures { result ≡ (a && b) }
-{
-    if a { b } else { false }
-}
+use crate::{Kind, Reg, Sig};
 
 // The word w where v holds, else nothing.
 pub fn show(v: bool, w: u32) -> Sig
@@ -28,11 +22,7 @@ pub fn show(v: bool, w: u32) -> Sig
 pub fn source_offers(reg: Reg, len: u32, offer: bool) -> bool
     ensures { result ≡ offers len reg offer }
 {
-    if reg.word < len {
-        if reg.marks == 1 { true } else { offer }
-    } else {
-        false
-    }
+    reg.word < len && (reg.marks == 1 || offer)
 }
 
 // v, y: whether the source's output is valid and ready. A position below a stream's length can go one on.
@@ -40,28 +30,23 @@ pub fn source_next(reg: Reg, v: bool, y: bool) -> Reg
     requires { v ≡ true → reg.word < 4294967295 }
     ensures { result ≡ source_next reg v y }
 {
-    if v {
-        if y {
-            return Reg {
-                word: reg.word + 1,
-                marks: 0,
-            };
+    if v && y {
+        Reg {
+            word: reg.word + 1,
+            marks: 0,
         }
-        return Reg {
+    } else {
+        Reg {
             word: reg.word,
-            marks: 1,
-        };
-    }
-    Reg {
-        word: reg.word,
-        marks: 0,
+            marks: v as u8,
+        }
     }
 }
 
 pub fn operator_out(m: u8, a: Sig, b: Sig) -> Sig
     ensures { result ≡ operator_out m a b }
 {
-    show(both(a.valid, b.valid), compute(m, a.word, b.word))
+    show(a.valid && b.valid, compute(m, a.word, b.word))
 }
 
 pub fn constant_out(m: u8, value: u32, a: Sig) -> Sig
@@ -74,7 +59,7 @@ pub fn constant_out(m: u8, value: u32, a: Sig) -> Sig
 pub fn copy_out(rest: u8, a: Sig) -> Sig
     ensures { result ≡ copy_out (bit 0 rest) a }
 {
-    show(both(a.valid, rest % 2 != 1), a.word)
+    show(a.valid && rest % 2 != 1, a.word)
 }
 
 // The delivered bits with one port more in front of them: ports are met from the last to the first.
@@ -106,14 +91,14 @@ pub fn fork_ready(n: u8, v: bool, gone: u8) -> bool
     requires { n ≤ 8 }
     ensures { (marks : ℕ) (d : ℕ → Bool) → gone ≡ gained n marks d → result ≡ fork_ready n marks v d }
 {
-    both(v, gone == all_copies(n))
+    v && gone == all_copies(n)
 }
 
 // Whether a copy that is valid or not, v, and ready or not, y, does not hinder its fork: it does while it is offered and not taken.
 pub fn copy_done(v: bool, y: bool) -> bool
     ensures { result ≡ (not v || y) }
 {
-    if v { y } else { true }
+    !v || y
 }
 
 pub fn fork_next(taken: bool, gone: u8) -> u8
@@ -125,21 +110,21 @@ pub fn fork_next(taken: bool, gone: u8) -> u8
 pub fn mux_out(s: Sig, a: Sig) -> Sig
     ensures { result ≡ mux_out s a }
 {
-    show(both(s.valid, a.valid), a.word)
+    show(s.valid && a.valid, a.word)
 }
 
 // Whether input i of a mux or a merge is ready, where go says that the chosen one is.
 pub fn chosen_ready(go: bool, i: u32, chosen: u32) -> bool
     ensures { result ≡ (go && i == chosen) }
 {
-    both(go, i == chosen)
+    go && i == chosen
 }
 
 // hit: this output is the selected one.
 pub fn demux_out(s: Sig, a: Sig, hit: bool) -> Sig
     ensures { result ≡ demux_out s a hit }
 {
-    show(both(s.valid, both(a.valid, hit)), a.word)
+    show(s.valid && a.valid && hit, a.word)
 }
 
 // What a merge's report carries of winner w, 1 to m, whose input is valid or not.
@@ -156,16 +141,16 @@ pub fn report_of(v: bool, w: u32) -> Sig
 pub fn merge_next(reg: Reg, v: bool, done: bool, w: u32, gone: u8) -> Reg
     ensures { result ≡ merge_next reg v done w gone }
 {
-    if v {
-        if done {
-            return Reg { word: 0, marks: 0 };
-        }
-        return Reg {
+    if !v {
+        reg
+    } else if done {
+        Reg::ZERO
+    } else {
+        Reg {
             word: w,
             marks: gone,
-        };
+        }
     }
-    reg
 }
 
 pub fn data_out(reg: Reg) -> Sig
@@ -177,30 +162,34 @@ pub fn data_out(reg: Reg) -> Sig
 pub fn data_ready(reg: Reg, y: bool) -> bool
     ensures { result ≡ data_ready reg y }
 {
-    if reg.marks == 1 { y } else { true }
+    y || reg.marks != 1
+}
+
+// What a port showed, as a buffer's registers.
+fn kept(s: Sig) -> Reg
+    ensures { result ≡ kept s }
+{
+    Reg {
+        word: s.word,
+        marks: s.valid as u8,
+    }
 }
 
 // t: the input is ready.
 pub fn data_next(reg: Reg, a: Sig, t: bool) -> Reg
     ensures { result ≡ data_next reg a t }
 {
-    if t {
-        let s = show(a.valid, a.word);
-        return Reg {
-            word: s.word,
-            marks: s.valid as u8,
-        };
-    }
-    reg
+    if t { kept(show(a.valid, a.word)) } else { reg }
 }
 
 pub fn control_out(reg: Reg, a: Sig) -> Sig
     ensures { result ≡ control_out reg a }
 {
     if reg.marks == 1 {
-        return show(true, reg.word);
+        show(true, reg.word)
+    } else {
+        show(a.valid, a.word)
     }
-    show(a.valid, a.word)
 }
 
 pub fn control_ready(reg: Reg) -> bool
@@ -213,24 +202,19 @@ pub fn control_ready(reg: Reg) -> bool
 pub fn control_next(out: Sig, y: bool) -> Reg
     ensures { (reg : Reg) (a : Sig) → out ≡ control_out reg a → result ≡ control_next reg a y }
 {
-    if y {
-        return Reg { word: 0, marks: 0 };
-    }
-    Reg {
-        word: out.word,
-        marks: out.valid as u8,
-    }
+    if y { Reg::ZERO } else { kept(out) }
 }
 
 // A block's registers in a fresh state.
 pub fn fresh_reg(kind: u8, value: u32) -> Reg
     ensures { (m : ℕ) (xs : List ℕ) → result ≡ fresh_reg (kind_of kind m value xs) }
 {
-    if kind == 9 {
-        return Reg {
+    if kind == Kind::FullBuffer as u8 {
+        Reg {
             word: value,
             marks: 1,
-        };
+        }
+    } else {
+        Reg::ZERO
     }
-    Reg { word: 0, marks: 0 }
 }

@@ -1,27 +1,10 @@
 // How many ports a block has, computed from its kind and m (document 01, "Blocks and ports", as request 4 changes it).
-ghost use Rattle.std.specs.Prelude.{◌≡◌, ◌≤◌, true, if◌then◌else◌};
-ghost use Rattle.blocks.specs.Ports.{m_ok, inputs_of, outputs_of, ports_of, has_value};
-ghost use Rattle.blocks.specs.declared.Ports.TheVariants.{Count};
+ghost use Rattle.std.specs.Prelude.{◌≡◌, ◌≤◌, true};
+ghost use Rattle.blocks.specs.Ports.{m_ok, counts_of, ports_of, has_value};
 
-use crate::Ports;
-use crate::cycle::both;
+use crate::{Kind, Ports};
 
-// Document 01's kinds, as far as they bound a group or stand out in one.
-const SINK: u8 = 1;
-
-const OPERATOR: u8 = 2;
-
-const CONSTANT: u8 = 3;
-
-const FORK: u8 = 4;
-
-const MUX: u8 = 5;
-
-const MERGE: u8 = 7;
-
-const CONTROL: u8 = 10;
-
-// Its ranges of m: the last operation, and how many ports a side may have.
+// The ranges of m: the last operation, and how many ports a side may have.
 const LAST_OPERATION: u8 = 3;
 
 const LEAST_PORTS: u8 = 2;
@@ -32,63 +15,71 @@ const MOST_PORTS: u8 = 8;
 pub fn takes(kind: u8, m: u8) -> bool
     ensures { result ≡ m_ok kind m }
 {
-    if kind <= SINK {
-        return m == 0;
+    if kind <= Kind::Sink as u8 {
+        m == 0
+    } else if kind <= Kind::Constant as u8 {
+        m <= LAST_OPERATION
+    } else if kind <= Kind::Merge as u8 {
+        LEAST_PORTS <= m && m <= MOST_PORTS
+    } else {
+        kind <= Kind::Control as u8 && m == 0
     }
-    if kind <= CONSTANT {
-        return m <= LAST_OPERATION;
-    }
-    if kind <= MERGE {
-        return both(LEAST_PORTS <= m, m <= MOST_PORTS);
-    }
-    both(kind <= CONTROL, m == 0)
 }
 
-// The first number where the test holds, else the second.
-pub fn either(test: bool, yes: u8, no: u8) -> u8
-    ensures { result ≡ (if test then yes else no) }
-{
-    if test { yes } else { no }
-}
-
-// The ports of a fork, a mux, a demux or a merge. A fork and a demux differ in the select alone.
+// The ports of a fork, a mux, a demux or a merge. A fork and a demux differ in the select alone; a test more in place of the sum would be compiled into a table.
 fn routing_ports(kind: u8, m: u8) -> Ports
     requires { (4 ≤ kind) × (kind ≤ 7) × (m ≤ 8) }
-    ensures { result ≡ Count (inputs_of kind m) (outputs_of kind m) }
+    ensures { result ≡ counts_of kind m }
 {
     let with_select = m + 1;
-    if kind == MUX {
-        return Ports::Count(with_select, 1);
+    if kind == Kind::Mux as u8 {
+        Ports {
+            inputs: with_select,
+            outputs: 1,
+        }
+    } else if kind == Kind::Merge as u8 {
+        Ports {
+            inputs: m,
+            outputs: 2,
+        }
+    } else {
+        Ports {
+            inputs: 1 + (kind == Kind::Demux as u8) as u8,
+            outputs: m,
+        }
     }
-    if kind == MERGE {
-        return Ports::Count(m, 2);
-    }
-    Ports::Count(either(kind == FORK, 1, 2), m)
 }
 
 // The ports of a kind and an m that it takes. A source has no input, a sink one and an operator two, as their numbers say; a choice with an arm for each kind would be
 // compiled into a table in read-only memory.
 fn used_ports(kind: u8, m: u8) -> Ports
     requires { m_ok kind m ≡ true }
-    ensures { result ≡ Count (inputs_of kind m) (outputs_of kind m) }
+    ensures { result ≡ counts_of kind m }
 {
-    if kind <= OPERATOR {
-        return Ports::Count(kind, either(kind == SINK, 0, 1));
+    if kind <= Kind::Operator as u8 {
+        Ports {
+            inputs: kind,
+            outputs: (kind != Kind::Sink as u8) as u8,
+        }
+    } else if Kind::Fork as u8 <= kind && kind <= Kind::Merge as u8 {
+        routing_ports(kind, m)
+    } else {
+        Ports {
+            inputs: 1,
+            outputs: 1,
+        }
     }
-    if both(FORK <= kind, kind <= MERGE) {
-        return routing_ports(kind, m);
-    }
-    Ports::Count(1, 1)
 }
 
-// The ports of a block of this kind with this m.
-pub fn ports_of(kind: u8, m: u8) -> Ports
+// The ports of a block of this kind with this m; none for a kind above 10 or an m that its kind does not take.
+#[tactic(auto, unfolding(crate::specs::Ports::ports_of))]
+pub fn ports_of(kind: u8, m: u8) -> Option<Ports>
     ensures { result ≡ ports_of kind m }
 {
     if takes(kind, m) {
-        used_ports(kind, m)
+        Some(used_ports(kind, m))
     } else {
-        Ports::Unused
+        None
     }
 }
 
@@ -96,5 +87,5 @@ pub fn ports_of(kind: u8, m: u8) -> Ports
 pub fn has_value(kind: u8) -> bool
     ensures { result ≡ has_value kind }
 {
-    if kind == 3 { true } else { kind == 9 }
+    kind == Kind::Constant as u8 || kind == Kind::FullBuffer as u8
 }

@@ -1,24 +1,17 @@
--- The parts of a case within a file of so many bytes, and within their lists.
+-- The parts of a case: one behind the other after its three numbers, which say how long they are.
 -- Assumes nothing.
-use Rattle.std.specs.Prelude.{ℕ, ◌+◌, ◌*◌, ◌≤◌, ◌≡◌, true, length}
-use Rattle.cases.specs.declared.Places.{Places}
+use Rattle.std.specs.Prelude.{ℕ, ◌*◌, ◌≤◌, ◌≡◌, List, ◌++◌, length, get_or, take, drop}
+use Rattle.trace.specs.Numbers.{numbers_of}
 use Rattle.cases.specs.declared.Case.{Case}
 
--- the parts lie one behind the other, those of a file that is a case within it
-pub record Lies (long : ℕ) (r : Places) : Type 0 where
-  pub few_words : r.word_count ≤ 256
-  pub few-ends : r.end_count ≤ 64
-  pub words : r.good ≡ true → 12 ≤ r.words_at
-  pub ends : r.words_at + 4 * r.word_count ≡ r.ends_at
-  pub rest : r.ends_at + 4 * r.end_count ≡ r.rest_at
-  pub inside : r.rest_at ≤ long
+-- number i of the three at a file's beginning
+abbrev pub number : List ℕ → ℕ → ℕ
+number file i = get_or (numbers_of (take 12 file)) i 0
 
--- what is lent of a case lies in the file and in the lists
-pub record Held (long : ℕ) (r : Case) : Type 0 where
-  pub few_words : r.word_count ≤ 256
-  pub few-ends : r.end_count ≤ 256
-  pub words_long : length r.words ≡ 256
-  pub ends-long : length r.ends ≡ 256
-  pub form : r.form_at ≤ r.form_end
-  pub form-inside : r.form_end ≤ long
-  pub rest-inside : r.rest_at ≤ long
+pub record IsParted (file : List ℕ) (c : Case) : Type 0 where
+  pub form_long : length c.form.now ≡ number file 0
+  pub words_long : length c.words.now ≡ 4 * number file 1
+  pub ends-long : length c.ends.now ≡ 4 * number file 2
+  pub few_words : number file 1 ≤ 256
+  pub few-ends : number file 2 ≤ 64
+  pub behind : drop 12 file ≡ c.form.now ++ (c.words.now ++ (c.ends.now ++ c.rest.now))

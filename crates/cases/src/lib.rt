@@ -2,133 +2,58 @@
 // there are; then come the form, the words, the ends, and what the program makes of the rest.
 #![tactic(auto)]
 
-ghost use Rattle.std.specs.Prelude.{◌≡◌, ◌*◌, ◌≤◌, length};
-ghost use Rattle.cases.specs.Parts.{Lies, Held};
+ghost use Rattle.std.specs.Prelude.{◌≤◌, length, IfSome};
+ghost use Rattle.cases.specs.Parts.{IsParted};
 
 use trace::numbers::number_at;
 
 // The most words and ends of a case.
-const WORD_ROOM: usize = 256;
+pub const MOST_WORDS: usize = 256;
 
-const END_ROOM: usize = 64;
+pub const MOST_ENDS: usize = 64;
 
-// The bytes of the three numbers at its beginning, behind which the form lies.
+// The bytes of the three numbers at its beginning, behind which the form lies, and those of a number.
 const HEADER: usize = 12;
 
-// Where the parts of a file lie. good: they do lie in it.
+const NUMBER_BYTES: usize = 4;
+
+// The parts of a file that is a case, one behind the other.
 #[derive(Clone, Copy)]
-struct Places {
-    good: bool,
-    words_at: usize,
-    ends_at: usize,
-    rest_at: usize,
-    word_count: usize,
-    end_count: usize,
+pub struct Case<'a> {
+    pub form: &'a [u8],
+    pub words: &'a [u8],
+    pub ends: &'a [u8],
+    pub rest: &'a [u8],
 }
 
-// The parts of a case: its form lies from byte form_at to byte form_end, the words and the ends stand at the beginning of their lists, and the rest begins at byte rest_at. good: the file is a case.
-#[derive(Clone, Copy)]
-pub struct Case {
-    pub good: bool,
-    pub form_at: usize,
-    pub form_end: usize,
-    pub rest_at: usize,
-    pub word_count: usize,
-    pub end_count: usize,
-    pub words: [u32; 256],
-    pub ends: [u32; 256],
-}
-
-// A file that is no case.
-fn no_places() -> Places
-    ensures { Lies 0 result }
+// The parts of a file, or none where it is no case.
+pub fn read_case(file: &[u8]) -> Option<Case>
+    ensures { IfSome result (λ c. IsParted file.now c) }
 {
-    Places {
-        good: false,
-        words_at: 0,
-        ends_at: 0,
-        rest_at: 0,
-        word_count: 0,
-        end_count: 0,
+    let (head, parts) = file.split_at_checked(HEADER)?;
+    let words = number_at(head, 1) as usize;
+    let ends = number_at(head, 2) as usize;
+    if MOST_WORDS < words || MOST_ENDS < ends {
+        return None;
     }
-}
-
-// Where the parts of these sizes lie in a file of so many bytes.
-fn places_for(long: usize, form_len: usize, word_count: usize, end_count: usize) -> Places
-    requires { (form_len ≤ 4294967295) × (word_count ≤ 4294967295) × (end_count ≤ 4294967295) }
-    ensures { Lies long result }
-{
-    let words_at = HEADER + form_len;
-    let ends_at = words_at + 4 * word_count;
-    let rest_at = ends_at + 4 * end_count;
-    if WORD_ROOM < word_count || END_ROOM < end_count || long < rest_at {
-        return no_places();
-    }
-    Places {
-        good: true,
-        words_at,
-        ends_at,
-        rest_at,
-        word_count,
-        end_count,
-    }
-}
-
-// Where the parts of a file lie.
-fn places_in(file: &[u8]) -> Places
-    ensures { Lies (length file.now) result }
-{
-    if file.len() < HEADER {
-        return no_places();
-    }
-    let form_len = number_at(file, 0) as usize;
-    let word_count = number_at(file, 1) as usize;
-    let end_count = number_at(file, 2) as usize;
-    places_for(file.len(), form_len, word_count, end_count)
-}
-
-// The first n numbers that bytes hold, then zeros.
-fn numbers_in(bytes: &[u8], n: usize) -> [u32; 256]
-    requires { (n ≤ 256) × (4 * n ≤ length bytes.now) }
-    ensures { length result ≡ 256 }
-{
-    let mut numbers = [0u32; WORD_ROOM];
-    for i in 0..n {
-        numbers[i] = number_at(bytes, i);
-    }
-    numbers
-}
-
-// The parts of a file.
-pub fn read_case(file: &[u8]) -> Case
-    ensures { Held (length file.now) result }
-{
-    let places = places_in(file);
-    if !places.good {
-        return Case {
-            good: false,
-            form_at: 0,
-            form_end: 0,
-            rest_at: 0,
-            word_count: 0,
-            end_count: 0,
-            words: [0; 256],
-            ends: [0; 256],
-        };
-    }
-    let words_at = places.words_at;
-    let ends_at = places.ends_at;
-    let rest_at = places.rest_at;
-    let words = numbers_in(&file[words_at..ends_at], places.word_count);
-    let ends = numbers_in(&file[ends_at..rest_at], places.end_count);
-    Case {
-        good: true,
-        form_at: HEADER,
-        form_end: words_at,
-        rest_at,
-        word_count: places.word_count,
-        end_count: places.end_count,
+    let (form, parts) = parts.split_at_checked(number_at(head, 0) as usize)?;
+    let (words, parts) = parts.split_at_checked(NUMBER_BYTES * words)?;
+    let (ends, rest) = parts.split_at_checked(NUMBER_BYTES * ends)?;
+    Some(Case {
+        form,
         words,
         ends,
+        rest,
+    })
+}
+
+// Puts the numbers that bytes hold at the start of the list, as far as it has room, and gives how many there are.
+pub fn put_numbers(bytes: &[u8], list: &mut [u32]) -> usize
+    ensures { result ≤ length list.new }
+{
+    let count = list.len().min(bytes.len() / NUMBER_BYTES);
+    for i in 0..count {
+        list[i] = number_at(bytes, i);
     }
+    count
 }

@@ -1,28 +1,26 @@
 -- Laws of the walk: the unmet channels fall by one, what a walk that goes on by the rules leaves in the lists, and that a chain depends on the answers at its channels alone.
 -- Assumes nothing.
-use mathlib.Core.Path.{◌≡◌, refl, ap, ap₂, sym, subst, ◌∙◌}
-use mathlib.Core.Bool.{Bool, true, false, cond}
-use mathlib.Core.List.{List, [], ◌∷◌, map}
-use mathlib.Core.Option.{Option, none, some}
-use Prim.Native.Nat.{ℕ, zero, suc, ◌+◌, ◌<◌, ◌≤◌}
-use native.Mathlib.Numerals.{add-one}
-use native.Mathlib.Omega.{arith}
-use lib.ListN.{length, get_or, set, length-set}
+use Rattle.std.proofs.Common.{◌≡◌, refl, ap, ap₂, sym, subst, ◌∙◌, Bool, true, false, cond, List, [], ◌∷◌, map, Option, Some, None, ℕ, zero, suc, ◌+◌, ◌<◌, ◌≤◌, length, get_or, set, add-one, arith}
 use lib.Seq.{sets}
-use Rattle.blocks.specs.Kinds.{kind_of}
+use Rattle.blocks.specs.States.{reg_in}
+use Rattle.blocks.specs.declared.Net.{Net}
+use Rattle.blocks.specs.declared.Sig.{Sig}
+use Rattle.blocks.specs.declared.State.{State}
 use Rattle.blocks.proofs.Asking.{handed_cases}
 use Rattle.blocks.proofs.Numbers.{ins_agree, outs_agree}
 use Rattle.ports.specs.Places.{sig_at, ready_at}
-use Rattle.passes.specs.Rows.{kind_no, m_no, in_no, out_no, reg_in}
+use Rattle.passes.specs.Rows.{block_no, kind_with, in_no, out_no}
 use Rattle.asking.specs.Endings.{ending_of}
 use Rattle.asking.specs.Questions.{goes_to, end_else, asks}
-use Rattle.asking.specs.Rows.{Row}
-use Rattle.chains.specs.Chain.{Trail, stop, onward, goes, trail, none_met, chain_from}
-use Rattle.chains.specs.Rows.{Seen, next_row, next_no, Wired, Within, unmet, trail_no, Noted, Follows}
+use Rattle.asking.specs.Rows.{next_by}
+use Rattle.chains.specs.Chain.{Trail, stop, no_trail, onward, goes, trail, none_met, chain_from}
+use Rattle.chains.specs.Rows.{next_no, unmet, trail_no, Noted, Follows}
+use Rattle.chains.specs.Wiring.{Wired}
 use Rattle.asking.specs.declared.Ending.{Ending}
-use Rattle.asking.specs.declared.Ending.TheVariants.{Empty, Circle}
+use Rattle.asking.specs.declared.Ending.TheVariants.{Circle}
 use Rattle.asking.specs.declared.Next.{Next}
 use Rattle.asking.specs.declared.Next.TheVariants.{Word, Ready, End}
+use Rattle.chains.specs.declared.Seen.{Seen}
 use Rattle.chains.specs.declared.Walked.{Walked}
 
 -- ## Channels not yet met
@@ -51,96 +49,80 @@ leads_asks P true n x e h = subst (LeadsBy P) e h
 leads_asks P false n x e h = subst (LeadsBy P) e h
 
 pub past_leads : (P : Bool → ℕ → Type 0) (o : Option Ending) (n : Next) → LeadsBy P n → LeadsBy P (end_else o n)
-past_leads P (some e) n h = tt
-past_leads P none n h = h
+past_leads P (Some e) n h = tt
+past_leads P None n h = h
 
-module _ (z : Seen) (size channels : ℕ) (w : Wired z size channels) where
+module _ (net : Net) (state : State) (producer consumer : List ℕ) (w : Wired net state producer consumer) (signals : List Sig) (ready : List Bool) where
   abbrev Inside : Bool → ℕ → Type 0
-  Inside q n = n < channels
+  Inside q n = n < net.channels
 
-  row_stays : (q : Bool) (b : ℕ) → b < size → LeadsBy Inside (next_row z q b)
+  row_stays : (q : Bool) (b : ℕ) → b < net.size → LeadsBy Inside (next_by net state signals ready q b)
   row_stays q b l =
-      let ins = ins_agree (m_no z.rows b) 0 [] (kind_no z.rows b) (w.row b l).sound in
-      let outs = outs_agree (m_no z.rows b) 0 [] (kind_no z.rows b) (w.row b l).sound in
-      past_leads Inside (ending_of (kind_of (kind_no z.rows b) (m_no z.rows b) 0 []) q b) _
-      (handed_cases (kind_of (kind_no z.rows b) (m_no z.rows b) 0 []) (reg_in z.words z.marks b) (λ i. sig_at z.valid z.word (in_no z.rows b i))
-      (λ j. (sig_at z.valid z.word (out_no z.rows b j)).valid) (λ j. ready_at z.ready (out_no z.rows b j))
-      (λ h. LeadsBy Inside (goes_to (in_no z.rows b) (out_no z.rows b) b h))
+      let block = block_no net b in
+      let ins = ins_agree block.m block.value [] block.kind (w.row b l).sound in
+      let outs = outs_agree block.m block.value [] block.kind (w.row b l).sound in
+      past_leads Inside (ending_of (kind_with block []) q b) _
+      (handed_cases (kind_with block []) (reg_in state b) (λ i. sig_at signals (in_no net b i)) (λ j. (sig_at signals (out_no net b j)).valid) (λ j. ready_at ready (out_no net b j))
+      (λ h. LeadsBy Inside (goes_to (in_no net b) (out_no net b) b h))
       (λ i h e. w.inputs b i l (subst (λ (n : ℕ). i < n) ins h)) (λ j h e. w.outputs b j l (subst (λ (n : ℕ). j < n) outs h)) (λ e d. tt))
 
-  pub stays : (q : Bool) (c : ℕ) → c < channels → LeadsBy Inside (next_no z q c)
-  stays true c l = row_stays true (get_or z.from c 0) (w.leaves c l)
-  stays false c l = row_stays false (get_or z.to c 0) (w.enters c l)
+  pub stays : (q : Bool) (c : ℕ) → c < net.channels → LeadsBy Inside (next_by net state signals ready q (get_or (cond q producer consumer) c 0))
+  stays true c l = row_stays true (get_or producer c 0) (w.leaves c l)
+  stays false c l = row_stays false (get_or consumer c 0) (w.enters c l)
 
 -- ## One channel of the walk
 
--- what is known where channel c is asked: t channels are not met, and there is room for them behind the first `count` places
-pub record Begun (z : Seen) (met : List Bool) (c count t : ℕ) : Type 0 where
-  pub within : Within z c
-  pub long : length met ≡ 128
-  pub room : count + unmet met ≤ 128
-  pub left : unmet met ≡ t
+-- what is known where channel c is asked: t channels are not met, and there is room for them in the chain
+pub record Begun (z : Seen) (walk : Walked) (c t : ℕ) : Type 0 where
+  pub wired : Wired z.net.now z.state.now z.producer.now z.consumer.now
+  pub below : c < z.net.now.channels
+  pub long : length walk.met ≡ 128
+  pub room : walk.count + unmet walk.met ≤ 128
+  pub left : unmet walk.met ≡ t
 
-module _ {z : Seen} {met : List Bool} {c count t : ℕ} (b : Begun z met c count t) where
+module _ {z : Seen} {walk : Walked} {c t : ℕ} (b : Begun z walk c t) where
   pub low : c < 128
-  low = omega (arith, b.within.below, b.within.wired.few)
+  low = omega (arith, b.below, b.wired.few)
 
-  -- the block that is asked for a word, and the one that is asked for readiness
-  pub row_from : Row z.rows z.words z.marks (get_or z.from c 0)
-  row_from = b.within.wired.row (get_or z.from c 0) (b.within.wired.leaves c b.within.below)
-
-  pub row_to : Row z.rows z.words z.marks (get_or z.to c 0)
-  row_to = b.within.wired.row (get_or z.to c 0) (b.within.wired.enters c b.within.below)
-
-  in_list : c < length met
+  in_list : c < length walk.met
   in_list = omega (arith, low, b.long)
 
-  trail_met : (q : Bool) (k : ℕ) → get_or met c false ≡ true → trail k (next_no z) met q c ≡ stop (Circle c)
+  trail_met : (q : Bool) (k : ℕ) → get_or walk.met c false ≡ true → trail k (next_no z) walk.met q c ≡ stop (Circle c)
   unfolding trail
   trail_met q zero h = refl
   trail_met q (suc k) h = rw h
 
   -- it is met already
-  pub at_circle : (q : Bool) (list : List ℕ) (has : List Bool) → get_or met c false ≡ true
-      → Follows (trail_no z met q c) z.valid count list list has has (record { count = count; ending = Circle c })
-  at_circle q list has h = rw (trail_met q (unmet met) h) (record { counted = omega arith; ended = refl; listed = refl; shown = refl })
+  pub at_circle : (q : Bool) → get_or walk.met c false ≡ true → Follows (trail_no z walk.met q c) z.signals.now walk walk (Circle c)
+  at_circle q h = rw (trail_met q (unmet walk.met) h) (record { counted = omega arith; ended = refl; listed = refl; shown = refl })
 
-  module _ (new : get_or met c false ≡ false) where
-    pub count-below : count < 128
-    count-below = omega (arith, b.room, falls met c in_list new)
+  module _ (new : get_or walk.met c false ≡ false) where
+    pub count-below : walk.count < 128
+    count-below = omega (arith, b.room, falls walk.met c in_list new)
 
-    trail-on : (q : Bool) → trail_no z met q c ≡ onward c (goes (next_no z q c) (trail_no z (set met c true)))
+    trail-on : (q : Bool) → trail_no z walk.met q c ≡ onward c (goes (next_no z q c) (trail_no z (set walk.met c true)))
     unfolding trail
-    trail-on q = rw (falls met c in_list new, new)
+    trail-on q = rw (falls walk.met c in_list new, new)
 
     -- it is noted, and its block has answered
-    module _ {met' : List Bool} {list list' : List ℕ} {has has' : List Bool} (noted : Noted c count z.valid met met' list list' has has')
-        (q : Bool) (found : Next) (told : found ≡ next_no z q c) where
+    module _ {walk' : Walked} (noted : Noted c z.signals.now walk walk') (q : Bool) (found : Next) (told : found ≡ next_no z q c) where
       -- what the next call asks
-      pub next-asks : (p : Bool) (n : ℕ) → found ≡ asks p n → (unmet met' < t) × (Within z n × ((length met' ≡ 128) × (count + 1 + unmet met' ≤ 128)))
-      next-asks p n e = rw noted.marked (
-        omega (arith, b.left, falls met c in_list new),
+      pub next-asks : (p : Bool) (n : ℕ) → found ≡ asks p n → (unmet walk'.met < t) × ((n < z.net.now.channels) × (walk'.count + unmet walk'.met ≤ 128))
+      next-asks p n e = rw (noted.marked, noted.more) (
+        omega (arith, b.left, falls walk.met c in_list new),
         (
-          record {
-            size = b.within.size;
-            channels = b.within.channels;
-            wired = b.within.wired;
-            below = leads_asks (λ q n. n < b.within.channels) p n (next_no z q c) (sym told ∙ e) (stays z b.within.size b.within.channels b.within.wired q c b.within.below);
-          },
-          (length-set met c true ∙ b.long, omega (arith, b.room, falls met c in_list new)),
+          leads_asks (λ q n. n < z.net.now.channels) p n (next_no z q c) (sym told ∙ e) (stays z.net.now z.state.now z.producer.now z.consumer.now b.wired z.signals.now z.ready.now q c b.below),
+          omega (arith, b.room, falls walk.met c in_list new),
         ),
       )
 
-      goes_on : (u : Trail) (list'' : List ℕ) (has'' : List Bool) (r : Walked) → trail_no z met q c ≡ onward c u → Follows u z.valid (count + 1) list' list'' has' has'' r
-          → Follows (trail_no z met q c) z.valid count list list'' has has'' r
-      goes_on u list'' has'' r p f = rw p (record {
-        counted = omega (arith, f.counted);
+      goes_on : (u : Trail) (walk'' : Walked) (e : Ending) → trail_no z walk.met q c ≡ onward c u → Follows u z.signals.now walk' walk'' e
+          → Follows (trail_no z walk.met q c) z.signals.now walk walk'' e
+      goes_on u walk'' e p f = rw p (record {
+        counted = omega (arith, f.counted, noted.more);
         ended = f.ended;
-        listed =
-            f.listed ∙ ap (λ (l : List ℕ). sets l (count + 1) u.channels) noted.put ∙ ap (λ (k : ℕ). sets (set list count c) k u.channels) (add-one count);
-        shown =
-            f.shown ∙ ap (λ (l : List Bool). sets l (count + 1) (map (λ c. get_or z.valid c false) u.channels)) noted.shown
-            ∙ ap (λ (k : ℕ). sets (set has count (get_or z.valid c false)) k (map (λ c. get_or z.valid c false) u.channels)) (add-one count);
+        listed = f.listed ∙ ap₂ (λ (l : List ℕ) (k : ℕ). sets l k u.channels) noted.put (noted.more ∙ add-one walk.count);
+        shown = f.shown ∙ ap₂ (λ (l : List Bool) (k : ℕ). sets l k (map (λ c. (sig_at z.signals.now c).valid) u.channels)) noted.shown (noted.more ∙ add-one walk.count);
       })
 
       next-goes : (T : Bool → ℕ → Trail) (p : Bool) (n : ℕ) → found ≡ asks p n → goes (next_no z q c) T ≡ T p n
@@ -148,22 +130,22 @@ module _ {z : Seen} {met : List Bool} {c count t : ℕ} (b : Begun z met c count
       next-goes T false n e = ap (λ (x : Next). goes x T) (sym told ∙ e)
 
       -- the walk from the channel that is asked next
-      pub walked_on : (p : Bool) (n : ℕ) → found ≡ asks p n → {list'' : List ℕ} {has'' : List Bool} {r : Walked} → Follows (trail_no z met' p n) z.valid (count + 1) list' list'' has' has'' r
-          → Follows (trail_no z met q c) z.valid count list list'' has has'' r
-      walked_on p n e {list''} {has''} {r} f =
-          goes_on (trail_no z met' p n) list'' has'' r
-          (trail-on q ∙ ap (onward c) (next-goes (trail_no z (set met c true)) p n e ∙ ap (λ (m : List Bool). trail_no z m p n) (sym noted.marked))) f
+      pub walked_on : (p : Bool) (n : ℕ) → found ≡ asks p n → {walk'' : Walked} {e : Ending} → Follows (trail_no z walk'.met p n) z.signals.now walk' walk'' e
+          → Follows (trail_no z walk.met q c) z.signals.now walk walk'' e
+      walked_on p n d {walk''} {e} f =
+          goes_on (trail_no z walk'.met p n) walk'' e
+          (trail-on q ∙ ap (onward c) (next-goes (trail_no z (set walk.met c true)) p n d ∙ ap (λ (m : List Bool). trail_no z m p n) (sym noted.marked))) f
 
       -- the chain ends at that block
-      pub walked_end : (e : Ending) → found ≡ End e → Follows (trail_no z met q c) z.valid count list list' has has' (record { count = count + 1; ending = e })
+      pub walked_end : (e : Ending) → found ≡ End e → Follows (trail_no z walk.met q c) z.signals.now walk walk' e
       walked_end e d =
-          goes_on (stop e) list' has' (record { count = count + 1; ending = e }) (trail-on q ∙ ap (λ (x : Next). onward c (goes x (trail_no z (set met c true)))) (sym told ∙ d))
+          goes_on (stop e) walk' e (trail-on q ∙ ap (λ (x : Next). onward c (goes x (trail_no z (set walk.met c true)))) (sym told ∙ d))
           (record { counted = omega arith; ended = refl; listed = refl; shown = refl })
 
 -- ## The whole chain
 
 module _ (next : Bool → ℕ → Next) (v y : Bool) (c : ℕ) where
-  pub from-delivers : v ≡ true → y ≡ true → chain_from next v y c ≡ stop Empty
+  pub from-delivers : v ≡ true → y ≡ true → chain_from next v y c ≡ no_trail
   unfolding chain_from
   from-delivers e f = rw (e, f)
 

@@ -1,19 +1,23 @@
 -- The chain of waiting channels (change request 9), given who is asked after each channel.
 -- Assumes nothing.
-use Rattle.std.specs.Prelude.{ℕ, zero, suc, Bool, true, false, cond, List, [], ◌∷◌, get_or, set, replicate}
+use Rattle.std.specs.Prelude.{ℕ, zero, suc, Bool, true, false, cond, List, [], ◌∷◌, get_or, set, replicate, Option, Some, None}
 use Rattle.asking.specs.declared.Ending.{Ending}
-use Rattle.asking.specs.declared.Ending.TheVariants.{Empty, Circle}
+use Rattle.asking.specs.declared.Ending.TheVariants.{Circle}
 use Rattle.asking.specs.declared.Next.{Next}
 use Rattle.asking.specs.declared.Next.TheVariants.{Word, Ready, End}
 
--- a chain: its channels in order, and how it ends
+-- a chain: its channels in order, and how it ends; an empty one has no ending
 pub record Trail : Type 0 where
   pub channels : List ℕ
-  pub ending : Ending
+  pub ending : Option Ending
 
 -- nothing more: the chain ends so
 abbrev pub stop : Ending → Trail
-stop e = record { channels = []; ending = e }
+stop e = record { channels = []; ending = Some e }
+
+-- no chain
+abbrev pub no_trail : Trail
+no_trail = record { channels = []; ending = None }
 
 -- a channel, and the chain from there on
 abbrev pub onward : ℕ → Trail → Trail
@@ -39,4 +43,4 @@ none_met = replicate 128 false
 -- "begin at a channel: if it lacks V, its producer is asked, and if it has V but lacks R, its consumer"; "if the beginning channel delivers, the chain is empty"
 unfoldable pub chain_from : (Bool → ℕ → Next) → Bool → Bool → ℕ → Trail
 chain_from next valid ready c =
-    cond valid (cond ready (stop Empty) (trail 128 next none_met false c)) (trail 128 next none_met true c)
+    cond valid (cond ready no_trail (trail 128 next none_met false c)) (trail 128 next none_met true c)

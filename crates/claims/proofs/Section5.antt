@@ -15,7 +15,7 @@ use Rattle.blocks.proofs.Folds.{clash, and_2}
 use Rattle.blocks.proofs.Numbers.{by_kind}
 use Rattle.blocks.proofs.Emptied.{storing}
 use Rattle.nets.specs.Net.{block_at}
-use Rattle.nets.specs.declared.Net.{Net}
+use Rattle.blocks.specs.declared.Net.{Net}
 use Rattle.nets.proofs.Nets.{channels-high}
 use Rattle.nets.proofs.Decided.{accepted, accepted_true}
 use Rattle.cycles.specs.Streams.{stream_of}
@@ -23,7 +23,7 @@ use Rattle.cycles.specs.Wires.{view_of, kind_at}
 use Rattle.cycles.specs.Cycle.{Signals, signals_of}
 use Rattle.cycles.specs.State.{regs_of}
 use Rattle.cycles.specs.Step.{refusal_by}
-use Rattle.cycles.specs.declared.State.{State}
+use Rattle.blocks.specs.declared.State.{State}
 use Rattle.cycles.specs.declared.Stepped.{Stepped}
 use Rattle.cycles.proofs.Joins.{ins_are, inp_range}
 use Rattle.cycles.proofs.Steps.{step-worked, mark_at}

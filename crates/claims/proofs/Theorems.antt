@@ -14,12 +14,12 @@ use Rattle.blocks.specs.Firing.{first}
 use Rattle.blocks.proofs.Folds.{clash}
 use Rattle.blocks.proofs.Options.{test}
 use Rattle.nets.specs.Net.{block_at}
-use Rattle.nets.specs.declared.Net.{Net}
+use Rattle.blocks.specs.declared.Net.{Net}
 use Rattle.nets.proofs.Decided.{accepted, accepted_true, accepted_is}
 use Rattle.cycles.specs.State.{regs_of, plain_kind, shape_ok}
 use Rattle.cycles.specs.Streams.{ends_fit}
 use Rattle.cycles.specs.Step.{refusal_by, fresh_by}
-use Rattle.cycles.specs.declared.State.{State}
+use Rattle.blocks.specs.declared.State.{State}
 use Rattle.cycles.specs.declared.Stepped.{Stepped}
 use Rattle.cycles.proofs.States.{fresh_shape}
 use Rattle.cycles.proofs.Steps.{step_refused, step-worked, count_rises as cycle-count, shape_kept as cycle-shape}

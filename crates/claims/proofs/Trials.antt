@@ -11,8 +11,8 @@ use Rattle.blocks.specs.Folds.{all_below}
 use Rattle.blocks.proofs.Trials.{BlockTrials, block_trials}
 use Rattle.nets.specs.Verdict.{number_of}
 use Rattle.nets.specs.Net.{block_at}
-use Rattle.nets.specs.declared.Net.{Net}
-use Rattle.nets.specs.declared.Verdict.TheVariants.{DataLoop, ControlLoop}
+use Rattle.blocks.specs.declared.Net.{Net}
+use Rattle.nets.specs.Verdict.{DataLoop, ControlLoop}
 use Rattle.nets.proofs.Decided.{verdict_of, verdict_of_lem, accepted, accepted_is}
 use Rattle.nets.proofs.Trials.{trial, data_buffer_on_itself, control-buffer_on_itself, line, line_accepted}
 use Rattle.queue.specs.Machine.{put_by}

@@ -11,12 +11,12 @@ use Rattle.blocks.specs.Signals.{shown, empty, full}
 use Rattle.blocks.specs.Equations.{winner}
 use Rattle.blocks.specs.declared.Sig.{Sig}
 use Rattle.blocks.specs.declared.Reg.{Reg}
-use Rattle.nets.specs.declared.Net.{Net}
+use Rattle.blocks.specs.declared.Net.{Net}
 use Rattle.nets.proofs.Decided.{accepted}
 use Rattle.cycles.specs.Wires.{view_of, kind_at}
 use Rattle.cycles.specs.Cycle.{signals_of}
 use Rattle.cycles.specs.State.{regs_of}
-use Rattle.cycles.specs.declared.State.{State}
+use Rattle.blocks.specs.declared.State.{State}
 use Rattle.sim.specs.Calls.{step_of}
 
 -- One block in one cycle: what its inputs and outputs show and whether they are ready, and its registers before and after.

@@ -6,11 +6,11 @@ use mathlib.Core.List.{List, [], ◌∷◌, ◌++◌, IsPrefix, Memᴰ}
 use Rattle.blocks.specs.Firing.{first}
 use Rattle.nets.specs.Net.{block_at}
 use Rattle.nets.specs.Verdict.{VerdictIs}
-use Rattle.nets.specs.declared.Net.{Net}
-use Rattle.nets.specs.declared.Verdict.TheVariants.{Accepted}
+use Rattle.blocks.specs.declared.Net.{Net}
+use Rattle.nets.specs.Verdict.{Accepted}
 use Rattle.nets.proofs.Decided.{accepted}
 use Rattle.cycles.specs.State.{regs_of, plain_kind, shape_ok}
-use Rattle.cycles.specs.declared.State.{State}
+use Rattle.blocks.specs.declared.State.{State}
 use Rattle.cycles.specs.declared.Stepped.{Stepped}
 use Rattle.queue.specs.Machine.{put_by, put}
 use Rattle.queue.specs.Delivered.{Input, marked, over, report, pending}

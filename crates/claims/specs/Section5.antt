@@ -8,12 +8,12 @@ use Rattle.blocks.specs.Signals.{empty}
 use Rattle.blocks.specs.declared.Sig.{Sig}
 use Rattle.nets.specs.Block.{ins}
 use Rattle.nets.specs.Net.{block_at}
-use Rattle.nets.specs.declared.Net.{Net}
+use Rattle.blocks.specs.declared.Net.{Net}
 use Rattle.nets.proofs.Decided.{accepted}
 use Rattle.cycles.specs.Wires.{view_of}
 use Rattle.cycles.specs.Cycle.{signals_of}
 use Rattle.cycles.specs.State.{regs_of}
-use Rattle.cycles.specs.declared.State.{State}
+use Rattle.blocks.specs.declared.State.{State}
 use Rattle.queue.specs.Machine.{machine_of, put_by}
 use Rattle.queue.specs.Delivered.{Input, over, offered, report}
 use Rattle.queue.specs.History.{WholeFirings}

@@ -3,6 +3,9 @@
 -- Assumes nothing.
 use Rattle.std.specs.Prelude.{ℕ, ◌%◌, cond, List, [], ◌∷◌, ◌++◌, eqb, leb, length, drop}
 use Rattle.recorded.specs.Recorded.{records_read, on, word_of}
+use Rattle.std.specs.Prelude.{Result, Ok, Err}
+use Rattle.blocks.specs.Refusals.{refusal_number}
+use Rattle.blocks.specs.declared.Refusal.{Refusal}
 use Rattle.compare.specs.declared.Gathered.{Gathered}
 
 -- the words of the records of channel c, in order
@@ -22,6 +25,11 @@ gather_refusal trace c room = cond (eqb (length trace % 8) 0) (cond (leb (length
 unfoldable pub gathered_of : List ℕ → ℕ → ℕ → Gathered
 gathered_of trace c room =
     record { refusal = gather_refusal trace c room; count = cond (eqb (gather_refusal trace c room) 0) (length (words_in trace c)) 0 }
+
+-- the answer that a number of words or a refusal makes
+abbrev pub answer_of : Result ℕ Refusal → Gathered
+answer_of (Ok n) = record { refusal = 0; count = n }
+answer_of (Err r) = record { refusal = refusal_number r; count = 0 }
 
 -- words over a list's beginning, what follows unchanged
 abbrev pub put_front : List ℕ → List ℕ → List ℕ

@@ -1,12 +1,11 @@
 // A channel's words out of a trace.
 ghost use Rattle.std.specs.Prelude.{◌≡◌, ◌*◌, ◌≤◌, leb, length};
-ghost use Rattle.compare.specs.Gather.{words_in, gathered_of, gathered_into, put_front};
+ghost use Rattle.compare.specs.Gather.{words_in, gathered_of, gathered_into, put_front, answer_of};
 
 use crate::Gathered;
-use recorded::{channel_of, record_at, word_of};
-
-// A record's bytes in a trace.
-const RECORD_BYTES: usize = 8;
+use blocks::Refusal;
+use recorded::{channel_at, word_at};
+use trace::records::RECORD_BYTES;
 
 // How many of the n records are the channel's.
 fn count_on(trace: &[u8], n: usize, channel: u8) -> usize
@@ -14,13 +13,10 @@ fn count_on(trace: &[u8], n: usize, channel: u8) -> usize
     ensures { result ≡ length (words_in trace.now channel) }
 {
     let mut k: usize = 0;
-    let mut i: usize = 0;
-    while i < n {
-        let r = record_at(trace, i);
-        if channel_of(r) == channel {
+    for i in 0..n {
+        if channel_at(trace, i) == channel {
             k += 1;
         }
-        i += 1;
     }
     k
 }
@@ -30,10 +26,7 @@ fn has_room(trace: &[u8], n: usize, channel: u8, room: usize) -> bool
     requires { 8 * n ≡ length trace.now }
     ensures { result ≡ leb (length (words_in trace.now channel)) room }
 {
-    if n <= room {
-        return true;
-    }
-    count_on(trace, n, channel) <= room
+    n <= room || count_on(trace, n, channel) <= room
 }
 
 // Puts the channel's words of the n records at the front of the list, which has room for them, and counts them.
@@ -44,22 +37,29 @@ fn fill(trace: &[u8], n: usize, channel: u8, list: &mut [u32]) -> usize
     ensures front { list.new ≡ put_front (words_in trace.now channel) list.old }
 {
     let mut k: usize = 0;
-    let mut i: usize = 0;
-    while i < n {
-        let r = record_at(trace, i);
-        if channel_of(r) == channel {
-            list[k] = word_of(r);
+    for i in 0..n {
+        if channel_at(trace, i) == channel {
+            list[k] = word_at(trace, i);
             k += 1;
         }
-        i += 1;
     }
     k
 }
 
-fn refused(refusal: u8) -> Gathered
-    ensures { result ≡ record { refusal = refusal; count = 0 } }
+// Puts the channel's words at the beginning of the list and gives their number, where the trace is whole records and the list has room.
+fn gathered(trace: &[u8], channel: u8, list: &mut [u32]) -> Result<usize, Refusal>
+    ensures answer { answer_of result ≡ gathered_of trace.now channel (length list.old) }
+    ensures filled { list.new ≡ gathered_into trace.now channel list.old }
 {
-    Gathered { refusal, count: 0 }
+    let size = trace.len();
+    if size % RECORD_BYTES != 0 {
+        return Err(Refusal::Trace);
+    }
+    let n = size / RECORD_BYTES;
+    if !has_room(trace, n, channel, list.len()) {
+        return Err(Refusal::List);
+    }
+    Ok(fill(trace, n, channel, list))
 }
 
 // Puts the channel's words of a trace, in order, at the beginning of the list and counts them; entries beyond are unchanged. A trace is any bytes, and a channel number
@@ -68,15 +68,11 @@ pub fn gather(trace: &[u8], channel: u8, list: &mut [u32]) -> Gathered
     ensures answer { result ≡ gathered_of trace.now channel (length list.old) }
     ensures filled { list.new ≡ gathered_into trace.now channel list.old }
 {
-    let size = trace.len();
-    if size % RECORD_BYTES != 0 {
-        return refused(22);
+    match gathered(trace, channel, list) {
+        Ok(count) => Gathered { refusal: 0, count },
+        Err(refusal) => Gathered {
+            refusal: refusal.number(),
+            count: 0,
+        },
     }
-    let n = size / RECORD_BYTES;
-    let room = list.len();
-    if !has_room(trace, n, channel, room) {
-        return refused(23);
-    }
-    let count = fill(trace, n, channel, list);
-    Gathered { refusal: 0, count }
 }

@@ -11,12 +11,14 @@ pub use gathering::gather;
 // What gathering answers: its refusal, or 0, and the number of words.
 #[derive(Clone, Copy)]
 pub struct Gathered {
+    // stays: what stands beside a refusal is promised too (`gathered_of`: count 0).
     pub refusal: u8,
+    // stays: the count is the answer; the words are in the lent list.
     pub count: usize,
 }
 
 // How two lists of words compare; `Says` (specs/Compare.antt) states what each case says of them.
-#[derive(Clone, Copy)]
+#[derive(Clone, Copy, PartialEq, Eq)]
 pub enum Compared {
     Equal,
     FirstBegins,
@@ -28,17 +30,7 @@ pub enum Compared {
 fn common(a: &[u32], b: &[u32]) -> usize
     ensures { result ≡ shared a.now b.now }
 {
-    let mut i = 0;
-    while i < a.len() {
-        if b.len() <= i {
-            return i;
-        }
-        if a[i] != b[i] {
-            return i;
-        }
-        i += 1;
-    }
-    i
+    a.iter().zip(b).take_while(|(x, y)| x == y).count()
 }
 
 // How the first list compares with the second.

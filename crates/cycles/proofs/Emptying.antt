@@ -13,15 +13,15 @@ use Rattle.blocks.proofs.Emptied.{storing, emptied}
 use Rattle.blocks.proofs.Numbers.{shape_plain}
 use Rattle.nets.specs.Net.{block_at, fields_ok}
 use Rattle.nets.specs.Verdict.{VerdictIs}
-use Rattle.nets.specs.declared.Net.{Net}
-use Rattle.nets.specs.declared.Verdict.TheVariants.{Accepted}
+use Rattle.blocks.specs.declared.Net.{Net}
+use Rattle.nets.specs.Verdict.{Accepted}
 use Rattle.nets.proofs.Nets.{size-high}
 use Rattle.cycles.specs.Streams.{stream_of, mask_of}
 use Rattle.cycles.specs.Wires.{View, view_of}
 use Rattle.cycles.specs.Cycle.{Signals, signals_of, next_at}
 use Rattle.cycles.specs.State.{regs_of}
 use Rattle.cycles.specs.Step.{refusal_by, step_by}
-use Rattle.cycles.specs.declared.State.{State}
+use Rattle.blocks.specs.declared.State.{State}
 use Rattle.cycles.specs.declared.Stepped.{Stepped}
 use Rattle.cycles.proofs.Solution.{solves}
 use Rattle.cycles.proofs.States.{regs_of_lem}

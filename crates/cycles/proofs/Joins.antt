@@ -13,7 +13,7 @@ use Rattle.blocks.proofs.Folds.{and_1, and_2}
 use Rattle.nets.specs.Block.{ins, outs, on_side}
 use Rattle.nets.specs.Net.{block_at, fields_ok, port_at, connected, place_of}
 use Rattle.nets.specs.Loops.{HasPort}
-use Rattle.nets.specs.declared.Net.{Net}
+use Rattle.blocks.specs.declared.Net.{Net}
 use Rattle.nets.proofs.Blocks.{ports_ten, input_side, side_input, output_side, side_output}
 use Rattle.nets.proofs.Nets.{m-ok}
 use Rattle.nets.proofs.Wirings.{port_of_lem}

@@ -7,8 +7,8 @@ use mathlib.Core.List.{[], ◌∷◌}
 use lib.ListN.{replicate}
 use Rattle.blocks.specs.Folds.{count_below, bit}
 use Rattle.nets.specs.Net.{kind_count}
-use Rattle.nets.specs.declared.Block.{Block}
-use Rattle.nets.specs.declared.Net.{Net}
+use Rattle.blocks.specs.declared.Block.{Block}
+use Rattle.blocks.specs.declared.Net.{Net}
 use Rattle.cycles.specs.Streams.{ends_fit, stream_of, mask_of}
 
 -- a source or a sink on channel c

@@ -15,8 +15,8 @@ use Rattle.nets.specs.Net.{block_at, fields_ok, connected}
 use Rattle.nets.specs.Loops.{is_buffer}
 use Rattle.nets.specs.Verdict.{VerdictIs}
 use Rattle.nets.specs.Promises.{InOrder}
-use Rattle.nets.specs.declared.Net.{Net}
-use Rattle.nets.specs.declared.Verdict.TheVariants.{Accepted}
+use Rattle.blocks.specs.declared.Net.{Net}
+use Rattle.nets.specs.Verdict.{Accepted}
 use Rattle.nets.proofs.Placed.{order_exists}
 use Rattle.cycles.specs.Streams.{stream_of, mask_of}
 use Rattle.cycles.specs.Wires.{kind_at, view_of, producer, consumer}

@@ -18,7 +18,7 @@ use Rattle.blocks.proofs.Folds.{and_both, all_in}
 use Rattle.blocks.proofs.Options.{test}
 use Rattle.blocks.proofs.Shapes.{shape_fresh}
 use Rattle.nets.specs.Net.{block_at, fields_ok}
-use Rattle.nets.specs.declared.Net.{Net}
+use Rattle.blocks.specs.declared.Net.{Net}
 use Rattle.nets.proofs.Nets.{size-high, m-ok}
 use Rattle.cycles.specs.Streams.{stream_of}
 use Rattle.cycles.specs.Wires.{kind_at}

@@ -22,8 +22,8 @@ use Rattle.blocks.proofs.Local.{ready_reads, next_local}
 use Rattle.blocks.proofs.Shapes.{shape_next}
 use Rattle.nets.specs.Net.{block_at, fields_ok}
 use Rattle.nets.specs.Verdict.{VerdictIs}
-use Rattle.nets.specs.declared.Net.{Net}
-use Rattle.nets.specs.declared.Verdict.TheVariants.{Accepted}
+use Rattle.blocks.specs.declared.Net.{Net}
+use Rattle.nets.specs.Verdict.{Accepted}
 use Rattle.nets.proofs.Nets.{size-high, m-ok}
 use Rattle.cycles.specs.Streams.{stream_of, ends_fit, mask_of}
 use Rattle.cycles.specs.Wires.{kind_at, view_of}
@@ -31,7 +31,7 @@ use Rattle.cycles.specs.Cycle.{Signals, signals_of, next_at, moves}
 use Rattle.cycles.specs.State.{regs_of, plain_kind, entry_shape, shape_ok}
 use Rattle.cycles.specs.Step.{refusal_by, refused_step, stepped_by, step_by}
 use Rattle.cycles.specs.Solved.{Solved}
-use Rattle.cycles.specs.declared.State.{State}
+use Rattle.blocks.specs.declared.State.{State}
 use Rattle.cycles.specs.declared.Stepped.{Stepped}
 use Rattle.blocks.proofs.Numbers.{shape_plain, copies}
 use Rattle.cycles.proofs.Solution.{solves}

@@ -13,15 +13,15 @@ use Rattle.blocks.specs.declared.Reg.{Reg}
 use Rattle.blocks.proofs.Local.{waits}
 use Rattle.blocks.proofs.Stays.{stays}
 use Rattle.nets.specs.Verdict.{VerdictIs}
-use Rattle.nets.specs.declared.Net.{Net}
-use Rattle.nets.specs.declared.Verdict.TheVariants.{Accepted}
+use Rattle.blocks.specs.declared.Net.{Net}
+use Rattle.nets.specs.Verdict.{Accepted}
 use Rattle.cycles.specs.Streams.{mask_of}
 use Rattle.cycles.specs.Wires.{View, view_of, producer, out_port}
 use Rattle.cycles.specs.Cycle.{Signals, signals_of, next_at}
 use Rattle.cycles.specs.State.{regs_of}
 use Rattle.cycles.specs.Step.{refusal_by, state_after, step_by}
 use Rattle.cycles.specs.Solved.{Solved}
-use Rattle.cycles.specs.declared.State.{State}
+use Rattle.blocks.specs.declared.State.{State}
 use Rattle.cycles.specs.declared.Stepped.{Stepped}
 use Rattle.cycles.proofs.Joins.{inp_range, leaves}
 use Rattle.cycles.proofs.Solution.{Orders, orders, earlier, solves}

@@ -8,7 +8,7 @@ use Rattle.blocks.specs.Signals.{nothing}
 use Rattle.blocks.specs.Equations.{out_of, ready_of, next_of}
 use Rattle.blocks.specs.declared.Sig.{Sig}
 use Rattle.blocks.specs.declared.Reg.{Reg}
-use Rattle.nets.specs.declared.Net.{Net}
+use Rattle.blocks.specs.declared.Net.{Net}
 use Rattle.cycles.specs.Streams.{mask_of}
 use Rattle.cycles.specs.Wires.{View, view_of, producer, out_port, consumer, in_port}
 

@@ -9,8 +9,8 @@ use Rattle.blocks.specs.Equations.{fresh_reg}
 use Rattle.blocks.specs.Shape.{zero_reg, in_shape}
 use Rattle.blocks.specs.declared.Reg.{Reg}
 use Rattle.nets.specs.Net.{block_at}
-use Rattle.nets.specs.declared.Net.{Net}
-use Rattle.cycles.specs.declared.State.{State}
+use Rattle.blocks.specs.declared.Net.{Net}
+use Rattle.blocks.specs.declared.State.{State}
 
 -- the list of f 0 to f (n - 1)
 unfoldable pub tab : {A : Type 0} → ℕ → (ℕ → A) → List A

@@ -2,12 +2,12 @@
 -- Assumes nothing.
 use Rattle.std.specs.Prelude.{ℕ, ◌+◌, Bool, false, cond, not, List, ltb, eqb, replicate}
 use Rattle.blocks.specs.Folds.{one}
-use Rattle.nets.specs.declared.Net.{Net}
+use Rattle.blocks.specs.declared.Net.{Net}
 use Rattle.cycles.specs.Streams.{ends_fit}
 use Rattle.cycles.specs.Wires.{view_of}
 use Rattle.cycles.specs.Cycle.{Signals, signals_of, next_at, moves}
 use Rattle.cycles.specs.State.{tab, regs_of, state_of, fresh_state, shape_ok}
-use Rattle.cycles.specs.declared.State.{State}
+use Rattle.blocks.specs.declared.State.{State}
 use Rattle.cycles.specs.declared.Stepped.{Stepped}
 
 -- the refusal of a step (n = 1) or of a run of n cycles; odd: its mask list is odd

@@ -4,7 +4,7 @@ use Rattle.std.specs.Prelude.{ℕ, Bool, cond, ◌&&◌, List, [], ◌∷◌, le
 use Rattle.std.proofs.Math.Seq.{slice}
 use Rattle.blocks.specs.Folds.{bit}
 use Rattle.nets.specs.Net.{is_kind, kind_count, number_among}
-use Rattle.nets.specs.declared.Net.{Net}
+use Rattle.blocks.specs.declared.Net.{Net}
 
 -- the ends do not descend, from low to at most high
 abbrev pub ascend : ℕ → ℕ → List ℕ → Bool

@@ -4,7 +4,7 @@ use Rattle.std.specs.Prelude.{ℕ, ◌+◌, ◌-◌, ◌/◌, ◌%◌, true, fal
 use Rattle.blocks.specs.Kinds.{Kind, kind_of}
 use Rattle.nets.specs.Block.{ins}
 use Rattle.nets.specs.Net.{block_at, place_of}
-use Rattle.nets.specs.declared.Net.{Net}
+use Rattle.blocks.specs.declared.Net.{Net}
 use Rattle.cycles.specs.Streams.{stream_of}
 
 pub record View : Type 0 where

@@ -3,7 +3,7 @@
 // channel, the room of its list; the same of the second; then the first trace and the second.
 #![tactic(auto)]
 
-ghost use Rattle.std.specs.Prelude.{◌≡◌, ◌+◌, ◌≤◌, length};
+ghost use Rattle.std.specs.Prelude.{◌≤◌};
 ghost use Rattle.std.specs.Counts.{IsPrefixLen};
 
 use compare::Compared;
@@ -15,32 +15,25 @@ const HEAD_BYTES: usize = 24;
 
 const MOST_ROOM: usize = 256;
 
-// Prints a text. A write that fails is passed over.
+// Prints a line. A write that fails is passed over, here and below.
 fn say(rt: &impl Print, text: &str) {
-    let _ = print!(rt; "{text}");
-}
-
-// Prints a text and a number, likewise.
-fn print(rt: &impl Print, text: &str, n: u64) {
-    let _ = print!(rt; "{text}{n}");
+    let _ = println!(rt; "{text}");
 }
 
 // Prints the words of a list, and ends the line.
 fn print_list(rt: &impl Print, text: &str, list: &[u32]) {
-    say(rt, text);
+    let _ = print!(rt; "{text}");
     for word in list {
-        print(rt, " ", *word as u64);
+        let _ = print!(rt; " {word}");
     }
-    say(rt, "\n");
+    let _ = println!(rt);
 }
 
 // A list before it is lent: entry i is 4294967295 - i.
-fn unfilled() -> [u32; 256]
-    ensures { 256 ≡ length result }
-{
-    let mut list = [0u32; 256];
-    for i in 0..256 {
-        list[i] = 4294967295 - i as u32;
+fn unfilled() -> [u32; MOST_ROOM] {
+    let mut list = [0u32; MOST_ROOM];
+    for (i, entry) in list.iter_mut().enumerate() {
+        *entry = u32::MAX - i as u32;
     }
     list
 }
@@ -50,24 +43,20 @@ fn gathered(rt: &impl Print, text: &str, trace: &[u8], channel: u8, list: &mut [
     ensures { IsPrefixLen result list.new }
 {
     let answer = compare::gather(trace, channel, list);
-    print(rt, text, answer.refusal as u64);
-    print(rt, " count ", answer.count as u64);
+    let _ = print!(rt; "{text}{} count {}", answer.refusal, answer.count);
     print_list(rt, " list", &*list);
     answer.count
 }
 
 fn show_answer(rt: &impl Print, a: &[u32], b: &[u32]) {
     match compare::compare(a, b) {
-        Compared::Equal => say(rt, "compare: equal\n"),
-        Compared::FirstBegins => say(rt, "compare: first begins second\n"),
-        Compared::SecondBegins => say(rt, "compare: second begins first\n"),
-        Compared::Differ(n) => say_place(rt, n),
+        Compared::Equal => say(rt, "compare: equal"),
+        Compared::FirstBegins => say(rt, "compare: first begins second"),
+        Compared::SecondBegins => say(rt, "compare: second begins first"),
+        Compared::Differ(n) => {
+            let _ = println!(rt; "compare: differ at {n}");
+        }
     }
-}
-
-fn say_place(rt: &impl Print, n: usize) {
-    print(rt, "compare: differ at ", n as u64);
-    say(rt, "\n");
 }
 
 // How two lists compare, and the rest.
@@ -90,14 +79,8 @@ fn asked(channel: u32, room: u32) -> Wish
 {
     Wish {
         channel: (channel % 256) as u8,
-        room: least(room as usize, MOST_ROOM),
+        room: MOST_ROOM.min(room as usize),
     }
-}
-
-fn least(a: usize, b: usize) -> usize
-    ensures { (result ≤ a) × (result ≤ b) }
-{
-    if a < b { a } else { b }
 }
 
 // Gathers from both traces into these lists, and compares what the calls put.
@@ -136,37 +119,29 @@ fn try_traces(rt: &impl Print, first: &[u8], a: Wish, second: &[u8], b: Wish)
 
 // ---- A file
 
-fn try_case(rt: &impl Print, file: &[u8]) {
-    if file.len() < HEAD_BYTES {
-        say(rt, "no case\n");
-        return;
-    }
-    let n = number_at(file, 0) as usize;
-    let m = number_at(file, 3) as usize;
-    if file.len() < HEAD_BYTES + n + m {
-        say(rt, "no case\n");
-        return;
-    }
-    let first = asked(number_at(file, 1), number_at(file, 2));
-    let second = asked(number_at(file, 4), number_at(file, 5));
-    let at = HEAD_BYTES + n;
-    let end = at + m;
-    try_traces(rt, &file[HEAD_BYTES..at], first, &file[at..end], second);
+fn try_case(rt: &impl Print, file: &[u8]) -> Option<()> {
+    let (head, traces) = file.split_at_checked(HEAD_BYTES)?;
+    let (first, others) = traces.split_at_checked(number_at(head, 0) as usize)?;
+    let (second, _) = others.split_at_checked(number_at(head, 3) as usize)?;
+    let wish = asked(number_at(head, 1), number_at(head, 2));
+    let other_wish = asked(number_at(head, 4), number_at(head, 5));
+    try_traces(rt, first, wish, second, other_wish);
+    Some(())
 }
 
 // ---- Without a file
 
 // Two traces laid beside each other, and calls that are refused.
 fn trial_of(rt: &impl Print, ours: &[u8], card: &[u8], torn: &[u8]) {
-    say(rt, "channel 2 of both\n");
+    say(rt, "channel 2 of both");
     try_traces(rt, ours, asked(2, 5), card, asked(2, 5));
-    say(rt, "channels 2 and 0\n");
+    say(rt, "channels 2 and 0");
     try_traces(rt, ours, asked(2, 5), card, asked(0, 5));
-    say(rt, "a list that is just long enough, and one that is not\n");
+    say(rt, "a list that is just long enough, and one that is not");
     try_traces(rt, ours, asked(2, 3), ours, asked(2, 2));
-    say(rt, "31 bytes, and no room either\n");
+    say(rt, "31 bytes, and no room either");
     try_traces(rt, torn, asked(0, 5), torn, asked(0, 0));
-    say(rt, "channels 130 and 3, which have no words\n");
+    say(rt, "channels 130 and 3, which have no words");
     try_traces(rt, ours, asked(130, 2), card, asked(3, 0));
 }
 
@@ -186,15 +161,11 @@ fn main(rt: HostRuntime) {
         trial_of_traces(&rt);
         return;
     }
-    let mut buf = [0u8; 65537];
-    let file = input::read_form(&rt, b"difftry", &mut buf);
-    if file.failed {
+    let mut buf = [0u8; MOST_BYTES + 1];
+    let Some(n) = input::read_form(&rt, b"difftry", &mut buf) else {
         return;
+    };
+    if MOST_BYTES < n || try_case(&rt, &buf[..n]).is_none() {
+        say(&rt, "no case");
     }
-    let n = file.bytes;
-    if MOST_BYTES < n {
-        say(&rt, "no case\n");
-        return;
-    }
-    try_case(&rt, &buf[..n]);
 }

@@ -1,26 +1,25 @@
--- The answers of `load` and `write`: a form's own refusals are 1 to 7, so a form with refusal 0 is read, and the verdict on its net decides; a net value is
--- written where its verdict's number is 0.
+-- The answers of `load` and `write`: a form's own refusals are 1 to 7; of a form that is read the check of its net decides; a net value is written where it is
+-- accepted.
 -- Assumes nothing.
 use Prim.Native.Nat.{ℕ, zero, suc, ◌≤◌}
 use native.Mathlib.Omega.{arith}
-use mathlib.Core.Path.{◌≡◌, refl, ap, sym, ◌∙◌, subst}
+use mathlib.Core.Path.{◌≡◌, refl, ap, sym}
 use mathlib.Core.List.{List, ◌++◌}
 use mathlib.Core.Bool.{Bool, true, false, cond}
 use lib.ListN.{length, drop}
 use lib.Dec.{leb, eqb}
-use borrow.Author.Tests.{eq-eqb, ne_eqb}
 use Rattle.reader.specs.Bits.{bits_of}
 use Rattle.nets.specs.Verdict.{VerdictIs, number_of}
-use Rattle.nets.specs.declared.Net.{Net}
-use Rattle.nets.specs.declared.Verdict.{Verdict}
-use Rattle.nets.specs.declared.Verdict.TheVariants.{Accepted, Field, Connection, Ends, DataLoop, ControlLoop}
-use Rattle.stored.specs.Form.{zero_net, Taken, got, refused, and_then, check, take_field, take_tested, take_many, take_value, take_rest, take_valued, take_block, take_blocks, take_counts, take_net, blank_end, Outcome, loaded, denied, finish, parse, form_of}
-use Rattle.forms.specs.Calls.{answer, LoadedFrom, Loaded, Wrote}
-use Rattle.stored.specs.Reads.{net_answer}
-use Rattle.forms.specs.Over.{written_of, buffer_of}
-use Rattle.stored.specs.declared.Loading.{Loading}
-use Rattle.forms.specs.declared.Written.{Written}
-use Rattle.forms.specs.declared.Written.TheVariants.{Bytes, Short, Unfit}
+use Rattle.blocks.specs.declared.Net.{Net}
+use Rattle.nets.specs.Verdict.{Verdict}
+use Rattle.nets.specs.Verdict.{Accepted, Field, Connection, Ends, DataLoop, ControlLoop}
+use Rattle.stored.specs.Form.{zero_net, Taken, got, refused, and_then, check, take_field, take_tested, take_many, take_value, take_rest, take_valued, take_block, take_blocks, take_counts, take_net, blank_end, loaded, denied, finish, parse, form_of}
+use Rattle.forms.specs.Calls.{Loaded, Wrote}
+use Rattle.forms.specs.Over.{answered, written_of, buffer_of}
+use Rattle.std.proofs.Common.{Result, Ok, Err}
+use Rattle.blocks.specs.Refusals.{refusal_number}
+use Rattle.blocks.specs.declared.Refusal.{Refusal}
+use Rattle.blocks.specs.declared.Refusal.TheVariants as refusal
 use Rattle.forms.proofs.Fields.{sizes_ok_lem}
 
 -- ## A taker refuses with 1 to 6
@@ -103,66 +102,30 @@ only_accepted Ends h = absurd (omega arith)
 only_accepted DataLoop h = absurd (omega arith)
 only_accepted ControlLoop h = absurd (omega arith)
 
--- what reading a form found, as `load` first has it
+-- ## What a load answers
+
 either_net : (t : Bool) → cond t zero_net zero_net ≡ zero_net
 either_net true = refl
 either_net false = refl
 
-module _ (f : List ℕ) (x : Loading) where
-  refused-from : (o : Outcome) → x ≡ net_answer o → (x.refusal ≡ 0 → ⊥) → LoadedFrom o x
-  unfolding net_answer
-  refused-from (denied e) h q = h ∙ ap (λ (n : Net). record { refusal = e; net = n }) (sym (either_net (eqb e 0)))
-  refused-from (loaded n) h q = absurd (q (ap (λ (l : Loading). l.refusal) h))
-
+module _ (f : List ℕ) where
   -- a form refused by its bits
-  pub load_refused : x ≡ net_answer (parse f) → (x.refusal ≡ 0 → ⊥) → Loaded f x
-  load_refused h q = refused-from (parse f) h q
-
-  judged_from : (o : Outcome) → parse f ≡ o → x ≡ net_answer o → x.refusal ≡ 0
-      → (v : Verdict) → VerdictIs x.net v → (l : Loading) → l ≡ answer (number_of v) x.net → LoadedFrom o l
-  unfolding net_answer
-  judged_from (denied e) s h z v r l k =
-      let d = denied_numbered f e s in
-      let q : x.refusal ≡ e = ap (λ (l : Loading). l.refusal) h in
-      absurd (omega arith)
-  judged_from (loaded n) s h z v r l k =
-      let e : x.net ≡ n = ap (λ (l : Loading). l.net) h in
-      (v, subst (λ (m : Net). VerdictIs m v) e r, k ∙ ap (answer (number_of v)) e)
-
-  -- a form that was read: the verdict decides
-  pub load_judged : x ≡ net_answer (parse f) → x.refusal ≡ 0 → (v : Verdict) → VerdictIs x.net v → (l : Loading) → l ≡ answer (number_of v) x.net → Loaded f l
-  load_judged h z v r l k = judged_from (parse f) refl h z v r l k
-
--- the two answers that the verdict decides between
-pub judged_denied : (e v : ℕ) (n : Net) → e ≡ v → (e ≡ 0 → ⊥) → net_answer (denied e) ≡ answer v n
-unfolding net_answer
-judged_denied e v n h q =
-    ap (λ (k : ℕ). record { refusal = k; net = zero_net }) h
-    ∙ ap (λ (t : Bool). record { refusal = v; net = cond t n zero_net }) (sym (ne_eqb v 0 (λ z. q (h ∙ z))))
-
-pub judged_good : (x : Loading) (v : ℕ) → x.refusal ≡ 0 → v ≡ 0 → x ≡ answer v x.net
-judged_good x v h k =
-    ap (λ (e : ℕ). record { refusal = e; net = x.net }) (h ∙ sym k)
-    ∙ ap (λ (t : Bool). record { refusal = v; net = cond t x.net zero_net }) (sym (eq-eqb v 0 k))
+  pub load_denied : (e : Refusal) → parse f ≡ denied (refusal_number e) → Loaded f (answered (Err e))
+  load_denied e h = rw h (ap (λ (n : Net). record { refusal = refusal_number e; net = n }) (sym (either_net (eqb (refusal_number e) 0))))
 
 -- ## Writing a net
 
 -- an accepted net has at most 64 blocks
-pub accepted_small : (n : Net) (v : Verdict) → VerdictIs n v → number_of v ≡ 0 → n.size ≤ 64
-accepted_small n v r h = (sizes_ok_lem n (subst (λ (w : Verdict). VerdictIs n w) (only_accepted v h) r).0.fields).1
+pub accepted_small : (n : Net) → VerdictIs n Accepted → n.size ≤ 64
+accepted_small n r = (sizes_ok_lem n r.0.fields).1
 
-module _ (n : Net) (buf : List ℕ) (v : Verdict) (right : VerdictIs n v) where
-  pub wrote_unfit : (number_of v ≡ 0 → ⊥) → Wrote n buf Unfit buf
-  wrote_unfit h = record { verdict = v; right = right; refusal = rw (ne_eqb (number_of v) 0 h) refl; count = refl; held = refl }
-
+module _ (n : Net) (buf : List ℕ) where
   -- the net is accepted: its form is put where it fits
-  pub wrote_put : number_of v ≡ 0 → (r : Written) (after : List ℕ) → r ≡ written_of buf (form_of n) → after ≡ buffer_of buf (form_of n) → Wrote n buf r after
+  pub wrote_put : VerdictIs n Accepted → (r : Result ℕ Refusal) (after : List ℕ) → r ≡ written_of buf (form_of n) → after ≡ buffer_of buf (form_of n) → Wrote n buf r after
   unfolding written_of buffer_of
-  wrote_put h r after p q = by (leb (length (form_of n)) (length buf)) refl p q
+  wrote_put right r after p q = by (leb (length (form_of n)) (length buf)) refl p q
     where
       by : (t : Bool) → leb (length (form_of n)) (length buf) ≡ t
-          → r ≡ cond t (Bytes (length (form_of n))) Short → after ≡ cond t (form_of n ++ drop (length (form_of n)) buf) buf → Wrote n buf r after
-      by true e p q =
-          rw p (record { verdict = v; right = right; refusal = rw (eq-eqb (number_of v) 0 h, e) refl; count = refl; held = q })
-      by false e p q =
-          rw p (record { verdict = v; right = right; refusal = rw (eq-eqb (number_of v) 0 h, e) refl; count = refl; held = q })
+          → r ≡ cond t (Ok (length (form_of n))) (Err refusal.Buffer) → after ≡ cond t (form_of n ++ drop (length (form_of n)) buf) buf → Wrote n buf r after
+      by true e p q = rw p (record { verdict = Accepted; right = right; refusal = rw e refl; count = refl; held = q })
+      by false e p q = rw p (record { verdict = Accepted; right = right; refusal = rw e refl; count = refl; held = q })

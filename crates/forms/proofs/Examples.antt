@@ -12,12 +12,13 @@ use lib.ListN.{length, take, drop, replicate}
 use borrow.Author.Tests.{ltb-true}
 use Rattle.blocks.specs.Ports.{ports_of}
 use Rattle.blocks.proofs.Folds.{and_1, and_2}
-use Rattle.nets.specs.declared.Verdict.TheVariants.{Accepted}
+use Rattle.nets.specs.Verdict.{Accepted}
 use Rattle.nets.proofs.Trials.{block, line, line_accepted}
 use Rattle.stored.specs.Form.{port_count, padded, zero_net, and_then, check, take_field, take_tested, between, take_many, take_value, take_rest, take_valued, take_block, take_blocks, take_counts, take_net, blank, blank_end, loaded, finish, parse, put_field, put_many, put_value, put_valued, put_block, put_net, encode, bytes_of, pack, form_of}
 use Rattle.forms.specs.Calls.{Loaded, refusal_of, count_of, Wrote}
 use Rattle.stored.specs.Sizes.{All, AreBytes, SizedBlock, Sized}
-use Rattle.forms.specs.declared.Written.{Written}
+use Rattle.std.proofs.Common.{Result}
+use Rattle.blocks.specs.declared.Refusal.{Refusal}
 use Rattle.forms.proofs.Theorems.{loads-written, writes_loaded}
 
 pub nothing : Loaded [] (record { refusal = 1; net = zero_net })
@@ -75,11 +76,11 @@ pub line_bytes : AreBytes bytes
 line_bytes = are_bytes bytes refl
 
 -- writing the net and loading what was written
-pub line_back : (buf : List ℕ) → 18 ≤ length buf → (r : Written) (after : List ℕ) → Wrote line buf r after
+pub line_back : (buf : List ℕ) → 18 ≤ length buf → (r : Result ℕ Refusal) (after : List ℕ) → Wrote line buf r after
     → (refusal_of r ≡ 0) × Loaded (take (count_of r) after) (record { refusal = 0; net = line })
 line_back buf room = loads-written line line_sized line_accepted buf (rw line_written room)
 
 -- loading the form and writing its net
-pub bytes_back : (buf : List ℕ) → 18 ≤ length buf → (r : Written) (after : List ℕ) → Wrote line buf r after
+pub bytes_back : (buf : List ℕ) → 18 ≤ length buf → (r : Result ℕ Refusal) (after : List ℕ) → Wrote line buf r after
     → (refusal_of r ≡ 0) × (count_of r ≡ 18) × (after ≡ bytes ++ drop 18 buf)
 bytes_back buf room = writes_loaded bytes line_bytes (record { refusal = 0; net = line }) line_loads refl buf room

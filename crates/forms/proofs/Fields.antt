@@ -15,8 +15,8 @@ use Rattle.blocks.specs.Ports.{m_ok, has_value}
 use Rattle.blocks.proofs.Folds.{all_at, all_in, and_both}
 use Rattle.nets.specs.Block.{no_block, ins, outs, port_ok, ports_ok, value_ok, block_ok}
 use Rattle.nets.specs.Net.{block_zero, entry_ok, entry_at, sizes_ok, fields_ok}
-use Rattle.nets.specs.declared.Block.{Block}
-use Rattle.nets.specs.declared.Net.{Net}
+use Rattle.blocks.specs.declared.Block.{Block}
+use Rattle.blocks.specs.declared.Net.{Net}
 use Rattle.stored.specs.Form.{port_count, padded, zero_block, loaded, parse}
 use Rattle.stored.specs.Sizes.{All, SizedBlock, Sized}
 use Rattle.stored.proofs.Lists.{all_so, all_with, all_take, all_drop, all_same, same_all}

@@ -10,12 +10,13 @@ use lib.ListN.{length, get_or, take, drop, replicate, length-append, length-repl
 use borrow.Author.Tests.{le-leb, lt-leb}
 use Rattle.reader.specs.Bits.{bits, bits_of}
 use Rattle.reader.proofs.Bits.{length_bits_of, number-take_lt}
-use Rattle.nets.specs.declared.Block.{Block}
-use Rattle.nets.specs.declared.Net.{Net}
+use Rattle.blocks.specs.declared.Block.{Block}
+use Rattle.blocks.specs.declared.Net.{Net}
 use Rattle.stored.specs.Form.{put_field, put_many, put_block, put_net, encode, padded, bytes_of, pack, form_of}
 use Rattle.stored.specs.Sizes.{AreBytes}
 use Rattle.forms.specs.Over.{over, written_of, buffer_of}
-use Rattle.forms.specs.declared.Written.TheVariants.{Bytes, Short}
+use Rattle.std.proofs.Common.{Ok, Err}
+use Rattle.blocks.specs.declared.Refusal.TheVariants.{Buffer}
 use Rattle.stored.proofs.Lists.{all_append, all_drop}
 use Rattle.stored.proofs.Codecs.{bits_of_bytes_of, bytes_of_bits_of}
 use Rattle.stored.proofs.Loads.{length-block}
@@ -114,15 +115,15 @@ form_most n h =
 
 -- the answers
 module _ (n : Net) (f : List ℕ) where
-  pub too_short : length f < (length (encode n) + 7) / 8 → (Short ≡ written_of f (form_of n)) × (f ≡ buffer_of f (form_of n))
+  pub too_short : length f < (length (encode n) + 7) / 8 → (Err Buffer ≡ written_of f (form_of n)) × (f ≡ buffer_of f (form_of n))
   unfolding written_of buffer_of
   too_short h =
       let s : length f < length (form_of n) = rw length-pack h in
       (rw (lt-leb _ _ s) refl, rw (lt-leb _ _ s) refl)
 
   pub fits : (g : List ℕ) → (length (encode n) + 7) / 8 ≤ length f → g ≡ form_of n ++ drop (length (form_of n)) f
-      → (Bytes ((length (encode n) + 7) / 8) ≡ written_of f (form_of n)) × (g ≡ buffer_of f (form_of n))
+      → (Ok ((length (encode n) + 7) / 8) ≡ written_of f (form_of n)) × (g ≡ buffer_of f (form_of n))
   unfolding written_of buffer_of
   fits g h e =
       let s : length (form_of n) ≤ length f = rw length-pack h in
-      (rw (le-leb _ _ s) (ap (λ (k : ℕ). Bytes k) (sym (length-pack (encode n)))), rw (le-leb _ _ s) e)
+      (rw (le-leb _ _ s) (ap (λ (k : ℕ). Ok k) (sym (length-pack (encode n)))), rw (le-leb _ _ s) e)

@@ -12,7 +12,7 @@ use lib.Seq.{set-append_left, paste, paste-suc, take-length}
 use lib.Dec.{eqb}
 use lib.Pow.{pow_mono}
 use Rattle.reader.specs.Bits.{digit, odd, bits, number, bits_of, bit_at}
-use Rattle.reader.proofs.Bits.{digit-odd, length-bits, number_lt, bits-number, number-bits, bit_at_le, get_d_bits}
+use Rattle.reader.proofs.Bits.{digit-odd, length-bits, number_lt, bits-number, number-bits, get_d_bits}
 use Rattle.forms.specs.Over.{with_bit, over}
 
 -- what storing a bit does to the number
@@ -54,24 +54,13 @@ bits-with_bit b k d = let n : length (set (bits 8 b) k d) ≡ 8 = length-set (bi
 pub weight_le : (k : ℕ) → 2 ^ (7 - k) ≤ 128
 weight_le k = let h : 7 - k ≤ 7 = omega arith in pow_mono h
 
-module _ (b k new : ℕ) (h : b < 256) (s : k < 8) (n : new < 2) where
-  pub bit_kept : bit_at b k ≡ new → b ≡ with_bit b k (odd new)
-  bit_kept e =
-      let d : digit (odd new) ≡ new = omega (arith, digit-odd new) in
-      omega (arith, rw (e, d) at (with_bit-sum b k (odd new) h s))
-
-  pub bit_raised : (bit_at b k ≡ new → ⊥) → new ≡ 1 → b + 1 * 2 ^ (7 - k) % 4294967296 ≡ with_bit b k (odd new)
-  bit_raised e one =
-      let d : digit (odd new) ≡ 1 = omega (arith, digit-odd new) in
-      let o : bit_at b k ≡ 0 = omega (arith, bit_at_le b k) in
-      omega (arith, rw (o, d) at (with_bit-sum b k (odd new) h s), weight_le k)
-
-  pub bit_cleared : (bit_at b k ≡ new → ⊥) → (new ≡ 1 → ⊥) → (1 * 2 ^ (7 - k) % 4294967296 ≤ b) × (b - 1 * 2 ^ (7 - k) % 4294967296 ≡ with_bit b k (odd new))
-  bit_cleared e one =
-      let d : digit (odd new) ≡ 0 = omega (arith, digit-odd new) in
-      let o : bit_at b k ≡ 1 = omega (arith, bit_at_le b k) in
-      let t = rw (o, d) at (with_bit-sum b k (odd new) h s) in
-      (omega (arith, t, weight_le k), omega (arith, t, weight_le k))
+-- what the code computes: the new bit's weight is added, and the old one's taken away
+pub bit_stored : (b k new old : ℕ) → b < 256 → k < 8 → new < 2 → old ≡ bit_at b k
+    → b + new * (1 * 2 ^ (7 - k) % 4294967296) - old * (1 * 2 ^ (7 - k) % 4294967296) ≡ with_bit b k (odd new)
+bit_stored b k new old h s n e =
+    let w : 1 * 2 ^ (7 - k) % 4294967296 ≡ 2 ^ (7 - k) = omega (arith, weight_le k) in
+    let d : digit (odd new) ≡ new = omega (arith, digit-odd new) in
+    rw (w, e) (omega (arith, rw d at (with_bit-sum b k (odd new) h s)))
 
 -- storing bit at of a form
 pub bits_of_put : (f : List ℕ) (at b : ℕ) (d : Bool) → at < 8 * length f → b ≡ with_bit (get_or f (at / 8) 0) (at % 8) d

@@ -13,16 +13,17 @@ use lib.Dec.{leb, eqb}
 use borrow.Author.Tests.{le-leb, eq-eqb}
 use Rattle.blocks.proofs.Folds.{clash}
 use Rattle.nets.specs.Verdict.{VerdictIs, number_of}
-use Rattle.nets.specs.declared.Net.{Net}
-use Rattle.nets.specs.declared.Verdict.{Verdict}
-use Rattle.nets.specs.declared.Verdict.TheVariants.{Accepted, Field, Connection, Ends, DataLoop, ControlLoop}
+use Rattle.blocks.specs.declared.Net.{Net}
+use Rattle.nets.specs.Verdict.{Verdict}
+use Rattle.nets.specs.Verdict.{Accepted, Field, Connection, Ends, DataLoop, ControlLoop}
 use Rattle.nets.proofs.Verdicts.{verdict_unique}
 use Rattle.stored.specs.Form.{zero_net, Outcome, loaded, denied, parse, form_of}
 use Rattle.forms.specs.Calls.{answer, LoadedFrom, Loaded, refusal_of, count_of, Wrote}
 use Rattle.stored.specs.Sizes.{AreBytes, Sized}
 use Rattle.stored.specs.declared.Loading.{Loading}
-use Rattle.forms.specs.declared.Written.{Written}
-use Rattle.forms.specs.declared.Written.TheVariants.{Bytes, Short, Unfit}
+use Rattle.std.proofs.Common.{Result}
+use Rattle.blocks.specs.declared.Refusal.{Refusal}
+use Rattle.forms.proofs.Numbers.{same_written}
 use Rattle.stored.proofs.Codecs.{load_written, write_loaded}
 use Rattle.forms.proofs.Fields.{fields_ok_lem, loaded-fields}
 use Rattle.forms.proofs.Answers.{denied_numbered, only_accepted}
@@ -37,20 +38,8 @@ loaded_unique f l m p q = go (parse f) p q
     go (denied e) p q = p ∙ sym q
     go (loaded n) p q = p.2 ∙ ap (λ (v : Verdict). answer (number_of v) n) (verdict_unique n p.0 q.0 p.1 q.1) ∙ sym q.2
 
--- its number and count tell an answer of `write`
-same_written : (r s : Written) → refusal_of r ≡ refusal_of s → count_of r ≡ count_of s → r ≡ s
-same_written (Bytes n) (Bytes m) h k = ap (λ (i : ℕ). Bytes i) k
-same_written (Bytes n) Unfit h k = absurd (omega arith)
-same_written (Bytes n) Short h k = absurd (omega arith)
-same_written Unfit (Bytes m) h k = absurd (omega arith)
-same_written Unfit Unfit h k = refl
-same_written Unfit Short h k = absurd (omega arith)
-same_written Short (Bytes m) h k = absurd (omega arith)
-same_written Short Unfit h k = absurd (omega arith)
-same_written Short Short h k = refl
-
 -- a net and a buffer have one answer and one buffer after it
-pub wrote_unique : (net : Net) (buf : List ℕ) (r s : Written) (a b : List ℕ) → Wrote net buf r a → Wrote net buf s b → (r ≡ s) × (a ≡ b)
+pub wrote_unique : (net : Net) (buf : List ℕ) (r s : Result ℕ Refusal) (a b : List ℕ) → Wrote net buf r a → Wrote net buf s b → (r ≡ s) × (a ≡ b)
 wrote_unique net buf r s a b p q =
     let v : p.verdict ≡ q.verdict = verdict_unique net p.verdict q.verdict p.right q.right in
     let e : refusal_of r ≡ refusal_of s =
@@ -93,7 +82,7 @@ loaded_numbers f l p = go (parse f) refl p
 -- ## The round trips
 
 -- what `write` answers for an accepted net and a buffer that its form fits
-accepted_wrote : (net : Net) → VerdictIs net Accepted → (buf : List ℕ) → length (form_of net) ≤ length buf → (r : Written) (after : List ℕ) → Wrote net buf r after
+accepted_wrote : (net : Net) → VerdictIs net Accepted → (buf : List ℕ) → length (form_of net) ≤ length buf → (r : Result ℕ Refusal) (after : List ℕ) → Wrote net buf r after
     → (refusal_of r ≡ 0) × (count_of r ≡ length (form_of net)) × (after ≡ form_of net ++ drop (length (form_of net)) buf)
 accepted_wrote net ok buf room r after w =
     let v : w.verdict ≡ Accepted = verdict_unique net w.verdict Accepted w.right ok in
@@ -104,7 +93,7 @@ accepted_wrote net ok buf room r after w =
 -- For every accepted net, `write` into a buffer that the form fits is not refused, and loading the bytes that it says it wrote gives the net and refusal 0.
 -- `Sized` holds of every value of the type `Net`: its arrays have 64 and 10 elements, and its values are of type u32.
 pub loads-written : (net : Net) → Sized net → VerdictIs net Accepted → (buf : List ℕ) → length (form_of net) ≤ length buf
-    → (r : Written) (after : List ℕ) → Wrote net buf r after
+    → (r : Result ℕ Refusal) (after : List ℕ) → Wrote net buf r after
     → (refusal_of r ≡ 0) × Loaded (take (count_of r) after) (record { refusal = 0; net = net })
 loads-written net sized ok buf room r after w =
     let a = accepted_wrote net ok buf room r after w in
@@ -116,7 +105,7 @@ loads-written net sized ok buf room r after w =
 -- For every form that loads with refusal 0, `write` of the loaded net into a buffer at least as long is not refused, returns the form's byte count, and the
 -- buffer then begins with the form's bytes and is unchanged after them. `AreBytes` holds of every value of the type `&[u8]`.
 pub writes_loaded : (f : List ℕ) → AreBytes f → (l : Loading) → Loaded f l → l.refusal ≡ 0 → (buf : List ℕ) → length f ≤ length buf
-    → (r : Written) (after : List ℕ) → Wrote l.net buf r after
+    → (r : Result ℕ Refusal) (after : List ℕ) → Wrote l.net buf r after
     → (refusal_of r ≡ 0) × (count_of r ≡ length f) × (after ≡ f ++ drop (length f) buf)
 writes_loaded f bytes l p z buf room r after w =
     let x = loaded_accepted f l p z in

@@ -8,11 +8,12 @@ use mathlib.Core.List.{List, [], ◌∷◌, ◌++◌, append_assoc, append-nil}
 use mathlib.Core.Bool.{Bool, true, false}
 use lib.ListN.{length, get_or, take, drop, length-append, take-append-drop}
 use lib.Seq.{paste-zero, take_at, drop-append-add, length-take-le, drop-drop, take-suc, take-take}
+use Rattle.std.proofs.lemmas.List.{get_or-take}
 use Rattle.reader.specs.Bits.{bits}
 use Rattle.blocks.specs.Ports.{has_value}
 use Rattle.nets.specs.Block.{no_block}
-use Rattle.nets.specs.declared.Block.{Block}
-use Rattle.nets.specs.declared.Net.{Net}
+use Rattle.blocks.specs.declared.Block.{Block}
+use Rattle.blocks.specs.declared.Net.{Net}
 use Rattle.stored.specs.Form.{Taken, port_count, put_field, put_value, put_many, put_valued, put_block, put_net, encode}
 use Rattle.forms.specs.Over.{over, block_bits}
 use Rattle.stored.proofs.Codecs.{Codec, port_count_le, many_front, port_codec, block_codec}
@@ -149,16 +150,26 @@ encode-bits n =
       length_field 4 1 (put_field 12 0 (put_field 8 n.size (put_field 8 n.channels x))),
     )
 
+-- block i of a net, as a loop over its blocks meets it
+abbrev pub met : Net → ℕ → Block
+met n i = get_or (take n.size n.blocks) i no_block
+
+pub many-met : (n : Net) → n.size ≤ length n.blocks → length (take n.size n.blocks) ≡ n.size
+many-met n long = length-take-le n.size n.blocks long
+
 -- what a turn over a net's blocks needs
 module _ (n : Net) (long : n.size ≤ length n.blocks) (i : ℕ) (h : i < n.size) where
-  pub turn-bits : length (up_to n.blocks (i + 1)) ≡ length (up_to n.blocks i) + block_bits (get_or n.blocks i no_block)
-  turn-bits = bits_more n.blocks i no_block (omega arith)
+  here : met n i ≡ get_or n.blocks i no_block
+  here = get_or-take n.size n.blocks i no_block h
 
-  pub turn-room : 32 + length (up_to n.blocks i) + block_bits (get_or n.blocks i no_block) ≤ length (encode n)
+  pub turn-bits : length (up_to n.blocks (i + 1)) ≡ length (up_to n.blocks i) + block_bits (met n i)
+  turn-bits = rw here (bits_more n.blocks i no_block (omega arith))
+
+  pub turn-room : 32 + length (up_to n.blocks i) + block_bits (met n i) ≤ length (encode n)
   turn-room = omega (arith, turn-bits, bits_mono n.blocks (i + 1) n.size (omega arith), encode-bits n)
 
   pub turn-over : (l : List Bool) → length (encode n) ≤ length l
-      → over (over l 32 (up_to n.blocks i)) (32 + length (up_to n.blocks i)) (put_block (get_or n.blocks i no_block) []) ≡ over l 32 (up_to n.blocks (i + 1))
+      → over (over l 32 (up_to n.blocks i)) (32 + length (up_to n.blocks i)) (put_block (met n i) []) ≡ over l 32 (up_to n.blocks (i + 1))
   turn-over l s =
-      over-over l 32 (32 + length (up_to n.blocks i)) (up_to n.blocks i) (put_block (get_or n.blocks i no_block) []) (omega (arith, turn-room)) refl
-      ∙ ap (over l 32) (sym (one_more n.blocks i no_block (omega arith)))
+      over-over l 32 (32 + length (up_to n.blocks i)) (up_to n.blocks i) (put_block (met n i) []) (omega (arith, turn-room)) refl
+      ∙ rw here (ap (over l 32) (sym (one_more n.blocks i no_block (omega arith))))

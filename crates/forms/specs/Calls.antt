@@ -2,14 +2,14 @@
 -- net that they hold; a net value that the check does not accept earns 12, then a buffer shorter than its form 17. Each answer is unique (`loaded_unique`,
 -- `wrote_unique` in proofs/Theorems.antt), since the verdict of the net check is.
 -- Assumes nothing.
-use Rattle.std.specs.Prelude.{◌≡◌, cond, List, ◌++◌, ℕ, leb, eqb, length, drop}
+use Rattle.std.specs.Prelude.{◌≡◌, cond, List, ◌++◌, ℕ, leb, eqb, length, drop, Result, Ok, Err}
+use Rattle.blocks.specs.Refusals.{refusal_number}
 use Rattle.nets.specs.Verdict.{VerdictIs, number_of}
-use Rattle.nets.specs.declared.Net.{Net}
-use Rattle.nets.specs.declared.Verdict.{Verdict}
+use Rattle.blocks.specs.declared.Net.{Net}
+use Rattle.nets.specs.Verdict.{Verdict}
 use Rattle.stored.specs.Form.{zero_net, Outcome, loaded, denied, parse, form_of}
 use Rattle.stored.specs.declared.Loading.{Loading}
-use Rattle.forms.specs.declared.Written.{Written}
-use Rattle.forms.specs.declared.Written.TheVariants.{Bytes, Short, Unfit}
+use Rattle.blocks.specs.declared.Refusal.{Refusal}
 
 -- refusal 0 with the net; any other with a zero net
 abbrev pub answer : ℕ → Net → Loading
@@ -25,18 +25,16 @@ abbrev pub Loaded : List ℕ → Loading → Type 0
 Loaded f l = LoadedFrom (parse f) l
 
 -- the document's number of each answer of `write`, and the bytes written
-abbrev pub refusal_of : Written → ℕ
-refusal_of (Bytes n) = 0
-refusal_of Unfit = 12
-refusal_of Short = 17
+abbrev pub refusal_of : Result ℕ Refusal → ℕ
+refusal_of (Ok n) = 0
+refusal_of (Err e) = refusal_number e
 
-abbrev pub count_of : Written → ℕ
-count_of (Bytes n) = n
-count_of Unfit = 0
-count_of Short = 0
+abbrev pub count_of : Result ℕ Refusal → ℕ
+count_of (Ok n) = n
+count_of (Err e) = 0
 
 -- r is the answer of `write` for a net and a buffer that held buf, and after is what the buffer then holds
-pub record Wrote (net : Net) (buf : List ℕ) (r : Written) (after : List ℕ) : Type 0 where
+pub record Wrote (net : Net) (buf : List ℕ) (r : Result ℕ Refusal) (after : List ℕ) : Type 0 where
   pub verdict : Verdict
   pub right : VerdictIs net verdict
   pub refusal : refusal_of r ≡ cond (eqb (number_of verdict) 0) (cond (leb (length (form_of net)) (length buf)) 0 17) 12

@@ -1,50 +1,50 @@
 // The stored form of a net: loading and writing it.
 #![tactic(auto)]
 
+ghost use Rattle.std.specs.Prelude.{◌≡◌};
 ghost use Rattle.forms.specs.Calls.{Loaded, Wrote};
+ghost use Rattle.forms.specs.Over.{answered};
 
 mod put;
 
+use blocks::Refusal;
 use nets::Net;
 use stored::{Loading, read};
-
-// What writing a net finds: the form's byte count, that the net is not accepted, or that the buffer is shorter than the form.
-#[derive(Clone, Copy)]
-pub enum Written {
-    Bytes(usize),
-    Unfit,
-    Short,
-}
 
 // The net that a form holds, or its refusal: 1 to 7 by its bits, then 8 to 11 by the check of the net.
 pub fn load(form: &[u8]) -> Loading
     ensures { Loaded form.now result }
 {
-    let found = read::read_net(form);
-    if found.refusal != 0 {
-        return found;
-    }
-    let plan = nets::plan_of(found.net);
-    let verdict = plan.verdict;
-    let refusal = nets::number(verdict);
-    if refusal != 0 {
-        return read::refused_load(refusal);
-    }
-    found
+    loading(loaded(form))
 }
 
-// The number of a verdict that accepts the net.
-const ACCEPTED: u8 = 0;
+// The answer of refusal 0 with a net, or of a refusal with a zero net.
+#[tactic(auto, unfolding(stored::specs::Reads::net_answer))]
+pub fn loading(found: Result<Net, Refusal>) -> Loading
+    ensures { result ≡ answered found }
+{
+    match found {
+        Ok(net) => Loading { refusal: 0, net },
+        Err(refusal) => read::refused_load(refusal.number()),
+    }
+}
 
-// Writes a net's form at the buffer's beginning and changes no later byte. Refused 12 or 17, it changes none.
-pub fn write(net: Net, buf: &mut [u8]) -> Written
+// The net that a form holds, or why it is refused, with no net beside a refusal.
+fn loaded(form: &[u8]) -> Result<Net, Refusal>
+    ensures { Loaded form.now (answered result) }
+{
+    let net = read::read_net(form)?;
+    nets::plan_of(net)?;
+    Ok(net)
+}
+
+// Writes a net's form at the buffer's beginning and changes no later byte: the form's byte count. Refused, 12 for a net that is not accepted or 17 for a shorter buffer, it
+// changes none.
+pub fn write(net: Net, buf: &mut [u8]) -> Result<usize, Refusal>
     ensures { Wrote net buf.old result buf.new }
 {
-    let plan = nets::plan_of(net);
-    let verdict = plan.verdict;
-    let number = nets::number(verdict);
-    if number != ACCEPTED {
-        return Written::Unfit;
+    match nets::plan_of(net) {
+        Ok(_) => put::put_net(net, buf),
+        Err(_) => Err(Refusal::Net),
     }
-    put::put_net(net, buf)
 }

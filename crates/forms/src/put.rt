@@ -4,8 +4,7 @@ ghost use Rattle.reader.specs.Bits.{odd, bits, bits_of};
 ghost use Rattle.stored.specs.Form.{put_field, put_many, put_valued, put_block, encode, form_of};
 ghost use Rattle.forms.specs.Over.{with_bit, over, block_bits, written_of, buffer_of};
 
-use crate::Written;
-use blocks::kinds;
+use blocks::{Refusal, kinds};
 use nets::{Block, Net};
 use stored::read::port_count;
 
@@ -14,16 +13,8 @@ fn with_bit(b: u8, k: usize, new: u32) -> u8
     requires { (k < 8) × (new < 2) }
     ensures { result ≡ with_bit b k (odd new) }
 {
-    let old = reader::bit(b, k);
     let weight = 1u32 << (7 - k);
-    let x = b as u32;
-    if old == new {
-        return b;
-    }
-    if new == 1 {
-        return (x + weight) as u8;
-    }
-    (x - weight) as u8
+    (b as u32 + new * weight - reader::bit(b, k) * weight) as u8
 }
 
 // Sets bit at of the buffer.
@@ -40,23 +31,18 @@ fn put_field(buf: &mut [u8], at: usize, width: usize, value: u32)
     requires { (at + width ≤ 8 * length buf.old) × (at ≤ 65536) × (width ≤ 32) }
     ensures { bits_of buf.new ≡ over (bits_of buf.old) at (bits width value) }
 {
-    let mut k: usize = 0;
-    while k < width {
-        let new = (value >> (width - 1 - k)) % 2;
-        put_bit(buf, at + k, new);
-        k += 1;
+    for k in 0..width {
+        put_bit(buf, at + k, (value >> (width - 1 - k)) % 2);
     }
 }
 
-// Writes count ports, 7 bits each, over the buffer's bits from bit start on.
-fn put_ports(buf: &mut [u8], start: usize, ports: [u8; 10], count: usize)
-    requires { (start + 7 * count ≤ 8 * length buf.old) × (start ≤ 8192) × (count ≤ 10) }
-    ensures { bits_of buf.new ≡ over (bits_of buf.old) start (put_many (put_field 7) (take count ports) []) }
+// Writes ports, 7 bits each, over the buffer's bits from bit start on.
+fn put_ports(buf: &mut [u8], start: usize, ports: &[u8])
+    requires { (start + 7 * length ports.now ≤ 8 * length buf.old) × (start ≤ 8192) × (length ports.now ≤ 10) }
+    ensures { bits_of buf.new ≡ over (bits_of buf.old) start (put_many (put_field 7) ports.now []) }
 {
-    let mut i: usize = 0;
-    while i < count {
-        put_field(buf, start + 7 * i, 7, ports[i] as u32);
-        i += 1;
+    for (i, port) in ports.iter().enumerate() {
+        put_field(buf, start + 7 * i, 7, *port as u32);
     }
 }
 
@@ -64,11 +50,8 @@ fn put_ports(buf: &mut [u8], start: usize, ports: [u8; 10], count: usize)
 fn block_bits(b: Block) -> usize
     ensures { result ≡ block_bits b }
 {
-    let ports = port_count(b.kind, b.m);
-    if kinds::has_value(b.kind) {
-        return 40 + 7 * ports;
-    }
-    8 + 7 * ports
+    let value = if kinds::has_value(b.kind) { 32 } else { 0 };
+    8 + value + 7 * port_count(b.kind, b.m)
 }
 
 // Writes what follows a block's m over the buffer's bits from bit at on: its value, where its kind has one, and its ports.
@@ -76,14 +59,13 @@ fn put_valued(buf: &mut [u8], at: usize, b: Block)
     requires { (at + length (put_valued b []) ≤ 8 * length buf.old) × (at ≤ 8100) }
     ensures { bits_of buf.new ≡ over (bits_of buf.old) at (put_valued b []) }
 {
-    let count = port_count(b.kind, b.m);
-    let ports = b.ports;
+    let ports = &b.ports[..port_count(b.kind, b.m)];
     if kinds::has_value(b.kind) {
         put_field(buf, at, 32, b.value);
-        put_ports(buf, at + 32, ports, count);
-        return;
+        put_ports(buf, at + 32, ports);
+    } else {
+        put_ports(buf, at, ports);
     }
-    put_ports(buf, at, ports, count);
 }
 
 // Writes a block over the buffer's bits from bit at on.
@@ -101,14 +83,9 @@ fn form_bits(net: Net) -> usize
     requires { net.size ≤ 64 }
     ensures { result ≡ length (encode net) }
 {
-    let n = net.size as usize;
-    let blocks = net.blocks;
     let mut bits: usize = 32;
-    let mut i: usize = 0;
-    while i < n {
-        let b = blocks[i];
-        bits += block_bits(b);
-        i += 1;
+    for b in &net.blocks[..net.size as usize] {
+        bits += block_bits(*b);
     }
     bits
 }
@@ -129,20 +106,15 @@ fn put_blocks(buf: &mut [u8], net: Net)
     requires { (net.size ≤ 64) × (length (encode net) ≤ 8 * length buf.old) }
     ensures { bits_of buf.new ≡ over (bits_of buf.old) 32 (put_many put_block (take net.size net.blocks) []) }
 {
-    let n = net.size as usize;
-    let blocks = net.blocks;
     let mut at: usize = 32;
-    let mut i: usize = 0;
-    while i < n {
-        let b = blocks[i];
-        put_block(buf, at, b);
-        at += block_bits(b);
-        i += 1;
+    for b in &net.blocks[..net.size as usize] {
+        put_block(buf, at, *b);
+        at += block_bits(*b);
     }
 }
 
 // Writes a net's form at the buffer's beginning, where it fits.
-pub(crate) fn put_net(net: Net, buf: &mut [u8]) -> Written
+pub(crate) fn put_net(net: Net, buf: &mut [u8]) -> Result<usize, Refusal>
     requires { net.size ≤ 64 }
     ensures answer { result ≡ written_of buf.old (form_of net) }
     ensures buffer { buf.new ≡ buffer_of buf.old (form_of net) }
@@ -150,10 +122,10 @@ pub(crate) fn put_net(net: Net, buf: &mut [u8]) -> Written
     let bits = form_bits(net);
     let bytes = (bits + 7) / 8;
     if buf.len() < bytes {
-        return Written::Short;
+        return Err(Refusal::Buffer);
     }
     put_header(buf, net.size, net.channels);
     put_blocks(buf, net);
     put_field(buf, bits, 8 * bytes - bits, 0);
-    Written::Bytes(bytes)
+    Ok(bytes)
 }

@@ -1,10 +1,8 @@
 // Runs of document 01 on the stored form: its 18 bytes there and back, 64 blocks and 65, single bytes, and forms of the longest lengths.
 #![tactic(auto)]
 
-ghost use Rattle.std.specs.Prelude.{◌≡◌, length};
-
-use forms::Written;
-use nets::{Block, Net};
+use blocks::Refusal;
+use trials::{pairs, print_bytes};
 
 // Prints a line: a text and a number. A write that fails is passed over.
 fn say(rt: &impl Print, text: &str, n: u64) {
@@ -13,23 +11,14 @@ fn say(rt: &impl Print, text: &str, n: u64) {
 
 // Prints the refusal that a form earns.
 fn show(rt: &impl Print, text: &str, form: &[u8]) {
-    let found = forms::load(form);
-    say(rt, text, found.refusal as u64);
-}
-
-fn print_bytes(rt: &impl Print, bytes: &[u8]) {
-    for byte in bytes {
-        let _ = print!(rt; " {byte:02x}");
-    }
-    let _ = println!(rt);
+    say(rt, text, forms::load(form).refusal as u64);
 }
 
 // Prints what writing a net answers.
-fn answer(rt: &impl Print, written: Written) {
+fn answer(rt: &impl Print, written: Result<usize, Refusal>) {
     match written {
-        Written::Bytes(n) => say(rt, "bytes ", n as u64),
-        Written::Unfit => say(rt, "refused ", 12),
-        Written::Short => say(rt, "refused ", 17),
+        Ok(n) => say(rt, "bytes ", n as u64),
+        Err(refusal) => say(rt, "refused ", refusal.number() as u64),
     }
 }
 
@@ -40,39 +29,13 @@ fn trial(rt: &impl Print) {
         0x42, 0x00, 0x80,
     ];
     show(rt, "18 bytes: ", &form);
-    let found = forms::load(&form);
-    let net = found.net;
+    let net = forms::load(&form).net;
     let mut long = [0xAAu8; 20];
     answer(rt, forms::write(net, &mut long));
-    print_bytes(rt, &long);
+    print_bytes(rt, " ", &long);
     let mut short = [0xAAu8; 17];
     answer(rt, forms::write(net, &mut short));
-    print_bytes(rt, &short);
-}
-
-// 32 sources, each joined to a sink.
-fn pairs() -> Net {
-    let mut blocks = [Block {
-        kind: 0,
-        m: 0,
-        value: 0,
-        ports: [0u8; 10],
-    }; 64];
-    for i in 0..64 {
-        let mut ports = [0u8; 10];
-        ports[0] = (i / 2) as u8;
-        blocks[i] = Block {
-            kind: (i % 2) as u8,
-            m: 0,
-            value: 0,
-            ports,
-        };
-    }
-    Net {
-        size: 64,
-        channels: 32,
-        blocks,
-    }
+    print_bytes(rt, " ", &short);
 }
 
 // A form of 64 blocks, and the same with the count 65.
@@ -110,9 +73,7 @@ fn form_byte(i: usize) -> u8 {
 }
 
 // A form of 64 muxes, with zero bytes after it.
-fn muxes() -> [u8; 100000]
-    ensures { 100000 ≡ length result }
-{
+fn muxes() -> [u8; 100000] {
     let mut form = [0u8; 100000];
     for i in 0..628 {
         form[i] = form_byte(i);

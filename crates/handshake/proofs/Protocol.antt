@@ -15,12 +15,12 @@ use lib.ListN.{get_elem?}
 use Rattle.blocks.specs.declared.Sig.{Sig}
 use Rattle.blocks.proofs.Folds.{clash}
 use Rattle.blocks.proofs.Options.{none-some}
-use Rattle.nets.specs.declared.Net.{Net}
+use Rattle.blocks.specs.declared.Net.{Net}
 use Rattle.nets.proofs.Nets.{channels-high}
 use Rattle.cycles.specs.Cycle.{Signals, signals_of}
 use Rattle.cycles.specs.State.{regs_of}
 use Rattle.cycles.specs.Step.{refusal_by, state_after, step_by, fresh_by}
-use Rattle.cycles.specs.declared.State.{State}
+use Rattle.blocks.specs.declared.State.{State}
 use Rattle.cycles.specs.declared.Stepped.{Stepped}
 use Rattle.cycles.proofs.Steps.{step-cases}
 use Rattle.cycles.proofs.Sustained.{keeps_after}

@@ -14,14 +14,14 @@ use Rattle.blocks.specs.Words.{operate, reach}
 use Rattle.blocks.proofs.Folds.{clash}
 use Rattle.nets.specs.Block.{ins, outs, on_side, ports_ok, block_ok}
 use Rattle.nets.specs.Net.{block_zero, fields_ok, kind_count, port_count, connected, place_of}
-use Rattle.nets.specs.declared.Net.{Net}
+use Rattle.blocks.specs.declared.Net.{Net}
 use Rattle.nets.proofs.Accepting.{rises, acceptable, accepted_test}
 use Rattle.cycles.specs.Streams.{ends_fit}
 use Rattle.cycles.specs.Wires.{view_of}
 use Rattle.cycles.specs.Cycle.{Signals, signals, signals_of}
 use Rattle.cycles.specs.State.{tab, regs_of, shape_ok}
 use Rattle.cycles.specs.Step.{refusal_by, state_after, step_by, fresh_by}
-use Rattle.cycles.specs.declared.State.{State}
+use Rattle.blocks.specs.declared.State.{State}
 use Rattle.cycles.specs.declared.Stepped.{Stepped}
 use Rattle.cycles.proofs.Steps.{step-cases}
 use Rattle.queue.specs.Machine.{fire, machine_of, put}

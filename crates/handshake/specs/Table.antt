@@ -4,11 +4,11 @@ use Rattle.std.specs.Prelude.{ℕ, ◌≤◌, ◌<◌, ◌≡◌, Bool, true, fa
 use mathlib.Core.List.{List, [], ◌∷◌, ◌++◌, Memᴰ}
 use Rattle.std.proofs.Math.Option.{some}
 use Rattle.std.proofs.Math.ListN.{get_elem?}
-use Rattle.nets.specs.declared.Net.{Net}
+use Rattle.blocks.specs.declared.Net.{Net}
 use Rattle.cycles.specs.Streams.{ends_fit}
 use Rattle.cycles.specs.Cycle.{Signals, signals_of}
 use Rattle.cycles.specs.State.{regs_of}
-use Rattle.cycles.specs.declared.State.{State}
+use Rattle.blocks.specs.declared.State.{State}
 use Rattle.queue.specs.Delivered.{Input, step_on}
 
 pub record Column : Type 0 where

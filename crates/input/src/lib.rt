@@ -1,7 +1,7 @@
 // Input of programs: a stored net, which is the bytes of the file that the first argument names, or of standard input where there is none; and the next bytes of an open file.
 #![tactic(auto)]
 
-ghost use Rattle.std.specs.Prelude.{◌≡◌};
+ghost use Rattle.std.specs.Prelude.{IfSome};
 ghost use Rattle.std.specs.Counts.{IsPrefixLen};
 ghost use Rattle.std.specs.Io.{ReadsAtMost};
 
@@ -9,13 +9,6 @@ use std::env::{Env, FillError};
 use std::fs::File;
 use std::io;
 use std::io::{Print, Read, Write};
-
-// What reading gave: so many bytes at the start of the buffer, or that it failed.
-#[derive(Clone, Copy)]
-pub struct Input {
-    pub bytes: usize,
-    pub failed: bool,
-}
 
 // As many bytes as a form is read with, and as the name of a file can have.
 pub const ROOM: usize = 4096;
@@ -29,11 +22,12 @@ const NAME_NO_TEXT: i32 = 84;
 const BEFORE_NUMBER: &str = " (os error ";
 
 // Writes on standard error. Where that fails there is nothing left to say it with.
-fn say(rt: &HostRuntime, text: &[u8]) {
+pub fn say(rt: &HostRuntime, text: &[u8]) {
     let _ = rt.stderr().write_all(text);
 }
 
 // Writes the system's text for an error on standard error.
+// stays: the system's text without its number, which Display does not leave out.
 fn say_reason(rt: &HostRuntime, error: &io::Error) {
     let mut text = [0u8; 256];
     let mut room: &mut [u8] = &mut text;
@@ -58,10 +52,7 @@ pub fn complain(rt: &HostRuntime, program: &[u8], name: &[u8], error: &io::Error
 
 // Whether the program was started with an argument i; its own name is number 0.
 pub fn has_argument(rt: &impl Env, i: usize) -> bool {
-    match rt.arg(i, &mut []) {
-        Err(FillError::NotPresent) => false,
-        _ => true,
-    }
+    !matches!(rt.arg(i, &mut []), Err(FillError::NotPresent))
 }
 
 // Why an argument does not name a file that can be read: it is too long.
@@ -82,6 +73,7 @@ pub fn read_all<R: Read>(input: &mut R, buf: &mut [u8]) -> io::Result<usize>
     ensures { ReadsAtMost result buf.new }
 {
     let mut done: usize = 0;
+    // stays: no index is counted, a turn goes on by as much as a read gives.
     while done < buf.len() {
         let n = input.read(&mut buf[done..])?;
         if n == 0 {
@@ -92,54 +84,41 @@ pub fn read_all<R: Read>(input: &mut R, buf: &mut [u8]) -> io::Result<usize>
     Ok(done)
 }
 
-// Nothing was read.
-fn failed() -> Input
-    ensures { result.bytes ≡ 0 }
-{
-    Input {
-        bytes: 0,
-        failed: true,
-    }
-}
-
-// Reads an open input; where that fails, says so with its name.
+// Puts an open input at the start of the buffer and gives the number of its bytes; where that fails, says so with its name.
 fn read_open<R: Read>(
     rt: &HostRuntime,
     program: &[u8],
     input: &mut R,
     name: &[u8],
     buf: &mut [u8],
-) -> Input
-    ensures { IsPrefixLen result.bytes buf.new }
+) -> Option<usize>
+    ensures { IfSome result (λ n. IsPrefixLen n buf.new) }
 {
     match read_all(input, buf) {
-        Ok(bytes) => Input {
-            bytes,
-            failed: false,
-        },
+        Ok(bytes) => Some(bytes),
         Err(error) => {
             complain(rt, program, name, &error);
-            failed()
+            None
         }
     }
 }
 
 // Reads the file of that name.
-fn read_named(rt: &HostRuntime, program: &[u8], name: &[u8], buf: &mut [u8]) -> Input
-    ensures { IsPrefixLen result.bytes buf.new }
+fn read_named(rt: &HostRuntime, program: &[u8], name: &[u8], buf: &mut [u8]) -> Option<usize>
+    ensures { IfSome result (λ n. IsPrefixLen n buf.new) }
 {
     match open(rt, name) {
         Ok(mut file) => read_open(rt, program, &mut file, name, buf),
         Err(error) => {
             complain(rt, program, name, &error);
-            failed()
+            None
         }
     }
 }
 
 // Reads the file that the first argument names.
-fn read_file(rt: &HostRuntime, program: &[u8], buf: &mut [u8]) -> Input
-    ensures { IsPrefixLen result.bytes buf.new }
+fn read_file(rt: &HostRuntime, program: &[u8], buf: &mut [u8]) -> Option<usize>
+    ensures { IfSome result (λ n. IsPrefixLen n buf.new) }
 {
     let mut path = [0u8; ROOM];
     match rt.arg(1, &mut path) {
@@ -151,14 +130,14 @@ fn read_file(rt: &HostRuntime, program: &[u8], buf: &mut [u8]) -> Input
                 b"the file that the first argument names",
                 &too_long(),
             );
-            failed()
+            None
         }
     }
 }
 
-// Puts the input's first bytes at the start of the buffer. 4,096 of them tell what a longer input holds as a form: no field lies beyond byte 628, and a byte follows either way.
-pub fn read_form(rt: &HostRuntime, program: &[u8], buf: &mut [u8]) -> Input
-    ensures { IsPrefixLen result.bytes buf.new }
+// Puts the input's first bytes at the start of the buffer and gives their number, or none where it cannot be read, which is then said. 4,096 of them tell what a longer input holds as a form: no field lies beyond byte 628, and a byte follows either way.
+pub fn read_form(rt: &HostRuntime, program: &[u8], buf: &mut [u8]) -> Option<usize>
+    ensures { IfSome result (λ n. IsPrefixLen n buf.new) }
 {
     if !has_argument(rt, 1) {
         return read_open(rt, program, &mut rt.stdin(), b"standard input", buf);

@@ -6,7 +6,7 @@ use mathlib.Core.Logic.{◌≢◌, ⊎_elim}
 use mathlib.Core.List.{List}
 use native.Mathlib.Omega.{arith}
 use Rattle.nets.specs.Verdict.{Joined}
-use Rattle.nets.specs.declared.Net.{Net}
+use Rattle.blocks.specs.declared.Net.{Net}
 use Rattle.queue.specs.Machine.{machine_of, put_by}
 use Rattle.queue.specs.Claims.{MergeFree}
 use Rattle.queue.proofs.Apart.{last_or}

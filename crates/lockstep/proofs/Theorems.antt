@@ -7,7 +7,7 @@ use mathlib.Core.List.{List, [], IsPrefix}
 use native.Mathlib.Omega.{arith}
 use lib.ListN.{length}
 use Rattle.nets.specs.Verdict.{Joined}
-use Rattle.nets.specs.declared.Net.{Net}
+use Rattle.blocks.specs.declared.Net.{Net}
 use Rattle.nets.proofs.Nets.{size-high, channels-high}
 use Rattle.cycles.specs.Wires.{View}
 use Rattle.queue.specs.Machine.{start, machine_of, put}

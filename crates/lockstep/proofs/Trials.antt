@@ -10,7 +10,7 @@ use Rattle.blocks.specs.Ports.{ports_of}
 use Rattle.nets.specs.Block.{ins, outs, on_side, ports_ok, block_ok}
 use Rattle.nets.specs.Net.{block_zero, fields_ok, kind_count, port_count, connected, place_of}
 use Rattle.nets.specs.Verdict.{VerdictIs}
-use Rattle.nets.specs.declared.Verdict.TheVariants.{Accepted}
+use Rattle.nets.specs.Verdict.{Accepted}
 use Rattle.nets.proofs.Accepting.{rises, acceptable, accepted_test}
 use Rattle.nets.proofs.Trials.{block, line, trial, data_buffer_on_itself}
 use Rattle.cycles.specs.State.{tab}

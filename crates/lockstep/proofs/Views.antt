@@ -14,8 +14,8 @@ use Rattle.blocks.specs.Firing.{turn, first, each, ◌then◌}
 use Rattle.blocks.specs.Ports.{n_in, n_out}
 use Rattle.nets.specs.Block.{ins, outs}
 use Rattle.nets.specs.Net.{block_at}
-use Rattle.nets.specs.declared.Block.{Block}
-use Rattle.nets.specs.declared.Net.{Net}
+use Rattle.blocks.specs.declared.Block.{Block}
+use Rattle.blocks.specs.declared.Net.{Net}
 use Rattle.nets.proofs.Blocks.{ports_ten}
 use Rattle.cycles.specs.Streams.{ends_fit, stream_of}
 use Rattle.cycles.specs.Wires.{View}

@@ -2,7 +2,7 @@
 -- Assumes nothing.
 use Rattle.std.specs.Prelude.{ℕ, ◌<◌, ◌≡◌, Bool, List, length}
 use Rattle.nets.specs.Verdict.{Joined}
-use Rattle.nets.specs.declared.Net.{Net}
+use Rattle.blocks.specs.declared.Net.{Net}
 use Rattle.queue.specs.Machine.{put_by}
 use Rattle.queue.specs.Delivered.{delivered}
 use Rattle.queue.specs.Claims.{IsAccepted, MergeFree, Comparable}

@@ -4,14 +4,16 @@
 // changes nothing but the place of a difference (`passed_over`, compare/proofs/Meaning.antt).
 #![tactic(auto)]
 
-ghost use Rattle.std.specs.Prelude.{◌≡◌, ◌+◌, ◌<◌, ◌≤◌, length};
+ghost use Rattle.std.specs.Prelude.{◌+◌, ◌<◌, ◌≤◌, length, IfSome};
 ghost use Rattle.netdiff.specs.Waits.{Within};
 
 use compare::Compared;
+use input::say;
 use std::env::Env;
 use std::fs;
 use std::io::{Read, Seek, SeekFrom};
 use std::num::wrapping_add_u64;
+use trace::records::RECORD_BYTES;
 
 // A file that is read, and the argument that names it.
 #[derive(Drop)]
@@ -27,13 +29,13 @@ struct Files {
     second: File,
 }
 
-// A channel's words that were read from a file and are not matched yet: entries `from` to `to` of its list. more: the file has not ended. failed: it could not be read.
+// A channel's words that were read from a file and are not matched yet: entries `from` to `to` of its list (two places, since a range is not copied). more: the file has not ended.
 #[derive(Clone, Copy)]
 struct Waiting {
     from: usize,
     to: usize,
+    // stays: the words that wait are there whether the file has ended or not.
     more: bool,
-    failed: bool,
 }
 
 // How far two files are compared: what waits of each, how many words are matched, and whether to go on.
@@ -42,52 +44,27 @@ struct Progress {
     first: Waiting,
     second: Waiting,
     matched: u64,
+    // stays: what waits and is matched counts in the end, when it goes on no more.
     going: bool,
 }
 
-// How the words that wait in the end compare: an answer of `compare`; how many words its rest has, or the place of a difference; and the two words that differ.
+// How the words that wait in the end compare: how many more the longer list has, or the place of a difference and the two words that differ.
 #[derive(Clone, Copy)]
-struct Ending {
-    answer: u8,
-    number: usize,
-    one: u32,
-    other: u32,
+enum Ending {
+    Equal,
+    FirstBegins(usize),
+    SecondBegins(usize),
+    Differ { place: usize, one: u32, other: u32 },
 }
 
-// By how many words a list is longer.
-#[derive(Clone, Copy)]
-struct Surplus {
-    words: u64,
-    failed: bool,
-}
-
-// A record's bytes in a trace.
-const RECORD_BYTES: usize = 8;
 // As many words as a block of a file has records, so that a channel's words of a block have room.
 const MOST_WORDS: usize = 8192;
 // The bytes of a block.
 const BLOCK: usize = 65536;
 
-const CHANNELS: usize = 128;
-// In place of a channel's number: each channel; none that there is.
-const EACH: u8 = 128;
-
-const NO_CHANNEL: u8 = 129;
-
-const EQUAL: u8 = 0;
-
-const FIRST_BEGINS: u8 = 1;
-
-const SECOND_BEGINS: u8 = 2;
-
-const DIFFER: u8 = 3;
+const CHANNELS: u8 = 128;
 
 // ---- Errors
-
-// Writes on standard error. Where that fails there is nothing left to say it with.
-fn say(rt: &HostRuntime, text: &[u8]) {
-    let _ = rt.stderr().write_all(text);
-}
 
 // Writes the program's name and the argument i on standard error.
 fn say_argument(rt: &HostRuntime, i: usize) {
@@ -120,47 +97,33 @@ fn unread() -> Waiting
         from: 0,
         to: 0,
         more: true,
-        failed: false,
     }
 }
 
-// Nothing waits; no line is printed for the channel.
-fn unreadable() -> Waiting
-    ensures { Within 0 result }
-{
-    Waiting {
-        from: 0,
-        to: 0,
-        more: false,
-        failed: true,
-    }
-}
-
-// The channel's words of the next block. A block that is not full is the last one.
+// The channel's words of the next block, or none where it cannot be read, which is then said. A block that is not full is the last one.
 fn next_words(
     rt: &HostRuntime,
     file: &File,
     channel: u8,
     buf: &mut [u8],
     list: &mut [u32],
-) -> Waiting
-    ensures { Within (length list.old) result }
+) -> Option<Waiting>
+    ensures { IfSome result (λ w. Within (length list.old) w) }
 {
     let Ok(n) = input::read_all(&mut &file.bytes, buf) else {
         say_unreadable(rt, file.argument);
-        return unreadable();
+        return None;
     };
     let gathered = compare::gather(&buf[..n], channel, list);
     if gathered.refusal != 0 {
         say_no_trace(rt, file.argument, n as u64);
-        return unreadable();
+        return None;
     }
-    Waiting {
+    Some(Waiting {
         from: 0,
         to: gathered.count,
         more: n == buf.len(),
-        failed: false,
-    }
+    })
 }
 
 // What waits where the list is used up: the words of the next block that has some.
@@ -171,18 +134,18 @@ fn refilled(
     before: Waiting,
     buf: &mut [u8],
     list: &mut [u32],
-) -> Waiting
+) -> Option<Waiting>
     requires { Within (length list.old) before }
-    ensures { Within (length list.old) result }
+    ensures { IfSome result (λ w. Within (length list.old) w) }
 {
     let mut waiting = before;
     for _ in 0..u64::MAX {
         if waiting.from != waiting.to || !waiting.more {
             break;
         }
-        waiting = next_words(rt, file, channel, buf, list);
+        waiting = next_words(rt, file, channel, buf, list)?;
     }
-    waiting
+    Some(waiting)
 }
 
 // ---- Printing
@@ -206,11 +169,9 @@ fn begun() -> Progress
     ensures within { Within 0 result.first }
     ensures within_2 { Within 0 result.second }
 {
-    let first = unread();
-    let second = unread();
     Progress {
-        first,
-        second,
+        first: unread(),
+        second: unread(),
         matched: 0,
         going: true,
     }
@@ -223,9 +184,7 @@ fn after(waiting: Waiting, k: usize) -> Waiting
 {
     Waiting {
         from: waiting.from + k,
-        to: waiting.to,
-        more: waiting.more,
-        failed: waiting.failed,
+        ..waiting
     }
 }
 
@@ -235,6 +194,7 @@ fn matching(a: &[u32], b: &[u32]) -> usize
     ensures upper_bound_2 { result ≤ length b.now }
 {
     match compare::compare(a, b) {
+        // An arm of its own: of an arm for two answers the proof does not know what `compare` says of each.
         Compared::Equal => a.len(),
         Compared::FirstBegins => a.len(),
         Compared::SecondBegins => b.len(),
@@ -254,17 +214,15 @@ fn passed(first: Waiting, second: Waiting, count: u64, a: &[u32], b: &[u32]) -> 
     let other_from = second.from;
     let other_to = second.to;
     let k = matching(&a[from..to], &b[other_from..other_to]);
-    let rest = after(first, k);
-    let other_rest = after(second, k);
     Progress {
-        first: rest,
-        second: other_rest,
+        first: after(first, k),
+        second: after(second, k),
         matched: wrapping_add_u64(count, k as u64),
         going: k > 0,
     }
 }
 
-// One turn: reads on where nothing waits, and passes over the words that match.
+// One turn: reads on where nothing waits, in both files even if one cannot be read, and passes over the words that match.
 fn advanced(
     rt: &HostRuntime,
     files: &Files,
@@ -273,18 +231,18 @@ fn advanced(
     buf: &mut [u8],
     a: &mut [u32],
     b: &mut [u32],
-) -> Progress
+) -> Option<Progress>
     requires within { Within (length a.old) at.first }
     requires within_2 { Within (length b.old) at.second }
-    ensures within_3 { Within (length a.old) result.first }
-    ensures within_4 { Within (length b.old) result.second }
+    ensures within_3 { IfSome result (λ p. Within (length a.old) p.first) }
+    ensures within_4 { IfSome result (λ p. Within (length b.old) p.second) }
 {
     let first = refilled(rt, &files.first, channel, at.first, buf, a);
     let second = refilled(rt, &files.second, channel, at.second, buf, b);
-    passed(first, second, at.matched, &*a, &*b)
+    Some(passed(first?, second?, at.matched, &*a, &*b))
 }
 
-// How many words a file has left, with those that are read: so many of the block that `last` tells of. failed: it could not be read.
+// How many words a file has left, with those that are read: so many of the block that `last` tells of; none where it cannot be read.
 fn left_over(
     rt: &HostRuntime,
     file: &File,
@@ -293,58 +251,46 @@ fn left_over(
     words: usize,
     buf: &mut [u8],
     list: &mut [u32],
-) -> Surplus {
+) -> Option<u64> {
     let mut waiting = last;
     let mut sum = words as u64;
     for _ in 0..u64::MAX {
         if !waiting.more {
             break;
         }
-        waiting = next_words(rt, file, channel, buf, list);
+        waiting = next_words(rt, file, channel, buf, list)?;
         sum = wrapping_add_u64(sum, waiting.to as u64);
     }
-    Surplus {
-        words: sum,
-        failed: waiting.failed,
-    }
+    Some(sum)
 }
 
 // How the words that wait in the end compare.
 fn ends<'a>(a: &'a [u32], b: &'a [u32]) -> Ending {
     let rest = compare::rest(a, b).len();
     match compare::compare(a, b) {
-        Compared::Equal => ended(EQUAL, rest),
-        Compared::FirstBegins => ended(FIRST_BEGINS, rest),
-        Compared::SecondBegins => ended(SECOND_BEGINS, rest),
+        Compared::Equal => Ending::Equal,
+        Compared::FirstBegins => Ending::FirstBegins(rest),
+        Compared::SecondBegins => Ending::SecondBegins(rest),
         Compared::Differ(n) => differing(a, b, n),
     }
 }
 
-fn differing(a: &[u32], b: &[u32], n: usize) -> Ending
-    requires { (n < length a.now) × (n < length b.now) }
+fn differing(a: &[u32], b: &[u32], place: usize) -> Ending
+    requires { (place < length a.now) × (place < length b.now) }
 {
-    Ending {
-        answer: DIFFER,
-        number: n,
-        one: a[n],
-        other: b[n],
-    }
-}
-
-fn ended(answer: u8, rest: usize) -> Ending {
-    Ending {
-        answer,
-        number: rest,
-        one: 0,
-        other: 0,
+    Ending::Differ {
+        place,
+        one: a[place],
+        other: b[place],
     }
 }
 
 // ---- A channel's line
 
-fn print_surplus(rt: &impl Print, channel: u8, text: &str, surplus: Surplus) {
-    if !surplus.failed {
-        print_words(rt, channel, text, surplus.words);
+// Unless a file could not be read.
+fn print_surplus(rt: &impl Print, channel: u8, text: &str, surplus: Option<u64>) {
+    if let Some(words) = surplus {
+        print_words(rt, channel, text, words);
     }
 }
 
@@ -358,21 +304,24 @@ fn print_ending(
     buf: &mut [u8],
     list: &mut [u32],
 ) {
-    if end.answer == EQUAL {
-        print_words(rt, channel, ": equal, ", at.matched);
-    } else if end.answer == FIRST_BEGINS {
-        let surplus = left_over(rt, &files.second, channel, at.second, end.number, buf, list);
-        print_surplus(rt, channel, ": first begins second by ", surplus);
-    } else if end.answer == SECOND_BEGINS {
-        let surplus = left_over(rt, &files.first, channel, at.first, end.number, buf, list);
-        print_surplus(rt, channel, ": second begins first by ", surplus);
-    } else {
-        let place = wrapping_add_u64(at.matched, end.number as u64);
-        print_difference(rt, channel, place, end.one, end.other);
+    match end {
+        Ending::Equal => print_words(rt, channel, ": equal, ", at.matched),
+        Ending::FirstBegins(rest) => {
+            let surplus = left_over(rt, &files.second, channel, at.second, rest, buf, list);
+            print_surplus(rt, channel, ": first begins second by ", surplus);
+        }
+        Ending::SecondBegins(rest) => {
+            let surplus = left_over(rt, &files.first, channel, at.first, rest, buf, list);
+            print_surplus(rt, channel, ": second begins first by ", surplus);
+        }
+        Ending::Differ { place, one, other } => {
+            let place = wrapping_add_u64(at.matched, place as u64);
+            print_difference(rt, channel, place, one, other);
+        }
     }
 }
 
-// The channel's line, unless a file could not be read.
+// The channel's line.
 fn conclude(
     rt: &HostRuntime,
     files: &Files,
@@ -387,9 +336,6 @@ fn conclude(
 {
     let first = at.first;
     let second = at.second;
-    if first.failed || second.failed {
-        return;
-    }
     let from = first.from;
     let to = first.to;
     let other_from = second.from;
@@ -398,7 +344,7 @@ fn conclude(
     print_ending(rt, files, channel, at, end, buf, a);
 }
 
-// Lays the channel's words of the two files beside each other.
+// Lays the channel's words of the two files beside each other. Where a file cannot be read there is no line.
 fn lay_beside(rt: &HostRuntime, files: &Files, channel: u8) {
     let _ = (&files.first.bytes).seek(SeekFrom::Start(0));
     let _ = (&files.second.bytes).seek(SeekFrom::Start(0));
@@ -413,7 +359,10 @@ fn lay_beside(rt: &HostRuntime, files: &Files, channel: u8) {
         if !at.going {
             break;
         }
-        at = advanced(rt, files, channel, at, buf, a, b);
+        let Some(further) = advanced(rt, files, channel, at, buf, a, b) else {
+            return;
+        };
+        at = further;
     }
     conclude(rt, files, channel, at, buf, a, b);
 }
@@ -421,29 +370,22 @@ fn lay_beside(rt: &HostRuntime, files: &Files, channel: u8) {
 // ---- Each channel
 
 // Marks the channels of the records of a block.
-fn mark_block(block: &[u8], seen: &mut [bool])
-    requires { length seen.old ≡ 128 }
-{
-    let n = block.len() / RECORD_BYTES;
-    for i in 0..n {
+fn mark_block(block: &[u8], seen: &mut [bool; 128]) {
+    for i in 0..block.len() / RECORD_BYTES {
         let channel = recorded::channel_of(recorded::record_at(block, i));
         seen[channel as usize] = true;
     }
 }
 
 // Marks the channels of the next block, and answers whether there may be another one.
-fn mark_next(file: &File, buf: &mut [u8], seen: &mut [bool]) -> bool
-    requires { length seen.old ≡ 128 }
-{
+fn mark_next(file: &File, buf: &mut [u8], seen: &mut [bool; 128]) -> bool {
     let n = input::read_all(&mut &file.bytes, buf).unwrap_or(0);
     mark_block(&buf[..n], seen);
     n == buf.len()
 }
 
 // Marks the channels on which a file has words.
-fn mark_channels(file: &File, seen: &mut [bool])
-    requires { length seen.old ≡ 128 }
-{
+fn mark_channels(file: &File, seen: &mut [bool; 128]) {
     let _ = (&file.bytes).seek(SeekFrom::Start(0));
     let mut block = [0u8; BLOCK];
     let buf: &mut [u8] = &mut block;
@@ -456,15 +398,14 @@ fn mark_channels(file: &File, seen: &mut [bool])
 
 // A line for each channel. One on which neither file has a word needs no more reading.
 fn lay_all_beside(rt: &HostRuntime, files: &Files) {
-    let mut marks = [false; CHANNELS];
-    let seen: &mut [bool] = &mut marks;
-    mark_channels(&files.first, seen);
-    mark_channels(&files.second, seen);
-    for c in 0..CHANNELS {
-        if seen[c] {
-            lay_beside(rt, files, c as u8);
+    let mut seen = [false; 128];
+    mark_channels(&files.first, &mut seen);
+    mark_channels(&files.second, &mut seen);
+    for channel in 0..CHANNELS {
+        if seen[channel as usize] {
+            lay_beside(rt, files, channel);
         } else {
-            print_words(rt, c as u8, ": equal, ", 0);
+            print_words(rt, channel, ": equal, ", 0);
         }
     }
 }
@@ -479,39 +420,20 @@ fn say_usage(rt: &HostRuntime) {
     );
 }
 
-// The number with another decimal digit after it, or none where that is no channel's.
-fn with_digit(number: u8, digit: u8) -> u8 {
-    if digit < b'0' {
-        return NO_CHANNEL;
+// The channel that the text is the number of.
+fn channel_in(text: &[u8]) -> Option<u8> {
+    match typed::number_in(text) {
+        Ok(number) if number < CHANNELS as u32 => Some(number as u8),
+        _ => None,
     }
-    if b'9' < digit {
-        return NO_CHANNEL;
-    }
-    if 12 < number {
-        return NO_CHANNEL;
-    }
-    let sum = 10 * number + (digit - b'0');
-    if sum < EACH { sum } else { NO_CHANNEL }
-}
-
-// The channel that the text is the number of, or none.
-fn channel_in(text: &[u8]) -> u8 {
-    if text.len() == 0 {
-        return NO_CHANNEL;
-    }
-    let mut number: u8 = 0;
-    for digit in text {
-        number = with_digit(number, *digit);
-    }
-    number
 }
 
 // The channel that the third argument asks for, or none, which is then said.
-fn channel_asked(rt: &HostRuntime) -> u8 {
+fn channel_asked(rt: &HostRuntime) -> Option<u8> {
     let mut text = [0u8; input::ROOM];
     let n = rt.arg(3, &mut text).unwrap_or(0);
     let channel = channel_in(&text[..n]);
-    if channel == NO_CHANNEL {
+    if channel.is_none() {
         say_argument(rt, 3);
         say(rt, b" is no channel: channels are 0 to 127\n");
     }
@@ -591,22 +513,18 @@ fn is_trace(rt: &HostRuntime, file: &File) -> bool {
 }
 
 // Compares the two files, on one channel or on each.
-fn compare_files(rt: &HostRuntime, files: &Files, channel: u8) {
-    if !is_trace(rt, &files.first) {
+fn compare_files(rt: &HostRuntime, files: &Files, channel: Option<u8>) {
+    if !is_trace(rt, &files.first) || !is_trace(rt, &files.second) {
         return;
     }
-    if !is_trace(rt, &files.second) {
-        return;
-    }
-    if channel == EACH {
-        lay_all_beside(rt, files);
-    } else {
-        lay_beside(rt, files, channel);
+    match channel {
+        Some(channel) => lay_beside(rt, files, channel),
+        None => lay_all_beside(rt, files),
     }
 }
 
 // Compares the files that the first two arguments name.
-fn compare_named(rt: &HostRuntime, channel: u8) {
+fn compare_named(rt: &HostRuntime, channel: Option<u8>) {
     let Some(bytes) = opened(rt, 1) else {
         return;
     };
@@ -624,11 +542,10 @@ fn main(rt: HostRuntime) {
         return;
     }
     if !input::has_argument(&rt, 3) {
-        compare_named(&rt, EACH);
+        compare_named(&rt, None);
         return;
     }
-    let channel = channel_asked(&rt);
-    if channel != NO_CHANNEL {
-        compare_named(&rt, channel);
+    if let Some(channel) = channel_asked(&rt) {
+        compare_named(&rt, Some(channel));
     }
 }

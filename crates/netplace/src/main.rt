@@ -1,21 +1,16 @@
 // Lists the placements of a stored net that load: of the file that the first argument names, or of standard input. The codes of each as digits, channel 0 first, a line each.
 #![tactic(auto)]
 
-ghost use Rattle.std.specs.Prelude.{◌≤◌, length};
+ghost use Rattle.std.specs.Prelude.{◌≤◌};
 
 use placements::numbers;
 
-// Prints a refusal. A write that fails is passed over.
-fn print_refusal(rt: &impl Print, n: u8) {
-    let _ = println!(rt; "refused {n}");
-}
-
-// Prints the codes of the first count numbers, of n channels each.
-fn print_lines(rt: &impl Print, n: usize, listed: &[u16], count: usize)
-    requires { (n ≤ 6) × (count ≤ length listed.now) }
+// Prints the codes of the numbers, of n channels each. A write that fails is passed over.
+fn print_lines(rt: &impl Print, n: usize, listed: &[u16])
+    requires { n ≤ 6 }
 {
-    for i in 0..count {
-        let line = numbers::line_of(n, listed[i]);
+    for number in listed {
+        let line = numbers::line_of(n, *number);
         let _ = rt.write_all(&line[..n + 1]);
     }
 }
@@ -24,19 +19,17 @@ fn print_lines(rt: &impl Print, n: usize, listed: &[u16], count: usize)
 fn print_list(rt: &impl Print, form: &[u8]) {
     let list = placements::list_form(form);
     if list.refusal != 0 {
-        print_refusal(rt, list.refusal);
+        let _ = println!(rt; "refused {}", list.refusal);
         return;
     }
-    let listed = list.numbers;
-    print_lines(rt, list.channels as usize, &listed, list.count);
+    let count = list.count;
+    let listed = &list.numbers[..count];
+    print_lines(rt, list.channels as usize, listed);
 }
 
 fn main(rt: HostRuntime) {
     let mut buf = [0u8; input::ROOM];
-    let form = input::read_form(&rt, b"netplace", &mut buf);
-    if form.failed {
-        return;
+    if let Some(n) = input::read_form(&rt, b"netplace", &mut buf) {
+        print_list(&rt, &buf[..n]);
     }
-    let n = form.bytes;
-    print_list(&rt, &buf[..n]);
 }

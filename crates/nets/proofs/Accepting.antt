@@ -14,9 +14,8 @@ use Rattle.blocks.proofs.Folds.{and_1, and_2, all_at, or_other}
 use Rattle.nets.specs.Block.{ins}
 use Rattle.nets.specs.Net.{block_at, fields_ok, connected, few_ends, place_of}
 use Rattle.nets.specs.Loops.{FreeLoop, is_buffer}
-use Rattle.nets.specs.Verdict.{Joined, VerdictIs}
-use Rattle.nets.specs.declared.Net.{Net}
-use Rattle.nets.specs.declared.Verdict.TheVariants.{Accepted}
+use Rattle.nets.specs.Verdict.{Joined, VerdictIs, Accepted}
+use Rattle.blocks.specs.declared.Net.{Net}
 use Rattle.nets.proofs.Blocks.{side_input}
 use Rattle.nets.proofs.FreeLoops.{LeadsFree, by_ends}
 use Rattle.nets.proofs.Places.{inp_range, the_end}

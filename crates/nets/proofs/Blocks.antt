@@ -8,35 +8,36 @@ use lib.Dec.{leb, ltb}
 use borrow.Author.Tests.{lt-ltb, le-leb, ltb-true, leb-true}
 use lib.ListN.{get_or}
 use Rattle.blocks.specs.Ports.{m_ok, ports_of}
-use Rattle.blocks.specs.declared.Ports.TheVariants.{Count, Unused}
+use Rattle.blocks.specs.declared.Ports.{Ports}
+use Rattle.std.proofs.Common.{Some, None}
 use Rattle.blocks.proofs.Folds.{and_1, and_2, and_both, all_at}
 use Rattle.blocks.proofs.Counts.{in_use, in_use_lem, ten_ports}
 use Rattle.nets.specs.Block.{ins, outs, on_side, port_ok, ports_ok, value_ok, block_ok}
-use Rattle.nets.specs.declared.Block.{Block}
+use Rattle.blocks.specs.declared.Block.{Block}
 
 -- ## The check
 
 module _ (b : Block) (channels : ℕ) where
-  pub block-unused : ports_of b.kind b.m ≡ Unused → block_ok b channels ≡ false
+  pub block-unused : ports_of b.kind b.m ≡ None → block_ok b channels ≡ false
   unfolding block_ok
   block-unused e = rw (in_use_lem b.kind b.m ∙ ap in_use e)
 
-  module _ (i o : ℕ) (e : ports_of b.kind b.m ≡ Count i o) where
+  module _ (p : Ports) (e : ports_of b.kind b.m ≡ Some p) where
     pub block-value : value_ok b.kind b.value ≡ false → block_ok b channels ≡ false
     unfolding block_ok
     block-value v = rw (in_use_lem b.kind b.m ∙ ap in_use e, v)
 
-    pub block-ports : value_ok b.kind b.value ≡ true → ports_ok b.ports (i + o) channels ≡ block_ok b channels
+    pub block-ports : value_ok b.kind b.value ≡ true → ports_ok b.ports (p.inputs + p.outputs) channels ≡ block_ok b channels
     unfolding block_ok ins outs
     block-ports v = rw (in_use_lem b.kind b.m ∙ ap in_use e, v, e)
 
 -- the counts as numbers
-module _ (b : Block) (i o : ℕ) (e : ports_of b.kind b.m ≡ Count i o) where
-  pub ins_of_lem : i ≡ ins b
+module _ (b : Block) (p : Ports) (e : ports_of b.kind b.m ≡ Some p) where
+  pub ins_of_lem : p.inputs ≡ ins b
   unfolding ins
   ins_of_lem = rw e
 
-  pub all_of : i + o ≡ ins b + outs b
+  pub all_of : p.inputs + p.outputs ≡ ins b + outs b
   unfolding ins outs
   all_of = rw e
 

@@ -1,19 +1,20 @@
 -- Every net value has its verdict, and so one as a function: what the contracts of the calls above cite.
 -- Assumes nothing.
-use mathlib.Core.Path.{◌≡◌, refl, sym, ap, subst}
+use mathlib.Core.Path.{◌≡◌, refl, sym, ap, subst, ◌∙◌}
 use mathlib.Core.Bool.{Bool, true, false}
 use mathlib.Core.List.{List}
 use mathlib.Core.Logic.{◌⊎◌, inl, inr}
 use Prim.Native.Nat.{ℕ}
+use Rattle.std.specs.Prelude.{Result, Ok, Err}
 use Rattle.blocks.proofs.Folds.{which, clash}
 use Rattle.nets.specs.Net.{fields_ok, connected, few_ends}
 use Rattle.nets.specs.Loops.{FreeLoop}
-use Rattle.nets.specs.Promises.{InOrder, Planned}
-use Rattle.nets.specs.Verdict.{Joined, VerdictIs}
-use Rattle.nets.specs.declared.Net.{Net}
+use Rattle.nets.specs.Promises.{InOrder, Planned, earned}
+use Rattle.nets.specs.Verdict.{Joined, VerdictIs, Verdict, Accepted, Field, Connection, Ends, DataLoop, ControlLoop}
+use Rattle.blocks.specs.declared.Net.{Net}
 use Rattle.nets.specs.declared.Plan.{Plan}
-use Rattle.nets.specs.declared.Verdict.{Verdict}
-use Rattle.nets.specs.declared.Verdict.TheVariants.{Accepted, Field, Connection, Ends, DataLoop, ControlLoop}
+use Rattle.nets.specs.declared.Fault.{Fault}
+use Rattle.nets.specs.declared.Fault.TheVariants as fault
 use Rattle.nets.proofs.Orders.{no_free_loop}
 use Rattle.nets.proofs.Placed.{order-or-loop}
 use Rattle.nets.proofs.Verdicts.{verdict_unique}
@@ -78,6 +79,26 @@ pub accepted_is : (net : Net) → VerdictIs net Accepted → accepted net ≡ tr
 unfolding accepted
 accepted_is net h = ap is_accepted (verdict_of_lem net Accepted h)
 
--- the plan's verdict is the net's
-pub planned_verdict : (net : Net) (p : Plan) → Planned net p → p.verdict ≡ verdict_of net
-planned_verdict net p h = sym (verdict_of_lem net p.verdict h.right)
+-- no fault is an acceptance
+not-accepted : (f : Fault) → is_accepted (earned f) ≡ false
+not-accepted fault.Field = refl
+not-accepted fault.Connection = refl
+not-accepted fault.Ends = refl
+not-accepted fault.DataLoop = refl
+not-accepted fault.ControlLoop = refl
+
+-- what the plan says of the net's verdict
+abbrev pub verdict_in : Result Plan Fault → Verdict
+verdict_in (Ok p) = Accepted
+verdict_in (Err f) = earned f
+
+pub planned_verdict : (net : Net) (r : Result Plan Fault) → Planned net r → verdict_in r ≡ verdict_of net
+planned_verdict net (Ok p) h = sym (verdict_of_lem net Accepted h.0)
+planned_verdict net (Err f) h = sym (verdict_of_lem net (earned f) h)
+
+pub planned_accepted : (net : Net) (p : Plan) → Planned net (Ok p) → accepted net ≡ true
+planned_accepted net p h = accepted_is net h.0
+
+pub planned_refused : (net : Net) (f : Fault) → Planned net (Err f) → accepted net ≡ false
+unfolding accepted
+planned_refused net f h = ap is_accepted (verdict_of_lem net (earned f) h) ∙ not-accepted f

@@ -7,7 +7,7 @@ use Rattle.loops.specs.Walk.{Loop}
 use Rattle.loops.proofs.Free.{to_blocks, to_ends}
 use Rattle.nets.specs.Net.{block_at}
 use Rattle.nets.specs.Loops.{Leads, is_buffer, FreeLoop}
-use Rattle.nets.specs.declared.Net.{Net}
+use Rattle.blocks.specs.declared.Net.{Net}
 
 -- channel c leads from block a to block b, and neither is such a buffer
 pub record LeadsFree (net : Net) (control : Bool) (c a b : ℕ) : Type 0 where

@@ -11,7 +11,7 @@ use Rattle.blocks.specs.Ports.{m_ok}
 use Rattle.blocks.proofs.Folds.{and_both, and_1, and_2, and_false_1, and_false_2, all_at, all_fails, all_less}
 use Rattle.nets.specs.Block.{block_ok}
 use Rattle.nets.specs.Net.{block_at, sizes_ok, entry_at, fields_ok}
-use Rattle.nets.specs.declared.Net.{Net}
+use Rattle.blocks.specs.declared.Net.{Net}
 
 module _ (net : Net) where
   pub fields_sizes : sizes_ok net.size net.channels ≡ false → fields_ok net ≡ false

@@ -1,7 +1,7 @@
 -- The laws of placing blocks: how the progress goes on, and what it means when it stops. A whole order has every block after the producers of its inputs,
 -- so there is no loop without a buffer; and where blocks are left that cannot be placed, there is one.
 -- Assumes nothing.
-use mathlib.Core.Path.{◌≡◌, refl, sym, ◌∙◌, subst, ap, ap₂}
+use mathlib.Core.Path.{◌≡◌, refl, sym, ◌∙◌, subst, ap}
 use mathlib.Core.Bool.{Bool, true, false, not, ◌&&◌, ◌||◌}
 use mathlib.Core.List.{List}
 use mathlib.Core.Logic.{◌⊎◌, inl, inr}
@@ -19,12 +19,11 @@ use Rattle.nets.specs.Block.{ins}
 use Rattle.nets.specs.Net.{block_at, fields_ok}
 use Rattle.nets.specs.Loops.{HasPort, Leads, FreeLoop, is_buffer}
 use Rattle.nets.specs.Promises.{TheBlock, Table, cuts, InOrder}
-use Rattle.nets.specs.Rows.{row_ins, row_port, Rows}
-use Rattle.nets.specs.Order.{feeder, unplaced, cut_at, fed_at, may_place, next_at, passed_at, Feeds, After, Judged, Progress, Stepped, Swept, Whole, Halted, Ordered}
-use Rattle.nets.specs.declared.Net.{Net}
+use Rattle.nets.specs.Order.{feeder, unplaced, cut_at, fed_at, may_place, next_at, passed_at, After, Judged, Progress, Placed, Stepped, Swept, Whole, Halted}
+use Rattle.blocks.specs.declared.Net.{Net}
+use Rattle.nets.specs.declared.placing.Order.{Order}
 use Rattle.nets.proofs.Blocks.{ins-small, input_side, side_input, port-small}
-use Rattle.nets.proofs.Nets.{channels-high, block_in}
-use Rattle.nets.proofs.Rows.{kind_in_lem, ins_in, port_in}
+use Rattle.nets.proofs.Nets.{size-high, channels-high, block_in}
 use Rattle.nets.proofs.FreeLoops.{LeadsFree, by_ends, by_blocks}
 
 -- ## Tests
@@ -47,52 +46,58 @@ within-yes false within placed e = and_2 within placed e
 within_no : (cut within placed : Bool) → within ≡ true → (cut || (within && placed)) ≡ false → (cut || placed) ≡ false
 within_no cut within placed w e = rw w at e
 
-module _ (control : Bool) (rows producer : List ℕ) (limit b : ℕ) (places : List ℕ) where
+module _ (control : Bool) (net : Net) (producer : List ℕ) (limit b : ℕ) (places : List ℕ) where
   -- nothing passes at input j, or it is fed by a block that is placed within the limit
   abbrev pub within : ℕ → Bool
-  within j = cut_at control rows producer b j || (leb (get_or places (feeder rows producer b j) 0) limit && not (unplaced places (feeder rows producer b j)))
+  within j = cut_at control net producer b j || (leb (get_or places (feeder net producer b j) 0) limit && not (unplaced places (feeder net producer b j)))
 
-  pub within_fed : (j : ℕ) → within j ≡ true → fed_at control rows producer places b j ≡ true
+  pub within_fed : (j : ℕ) → within j ≡ true → fed_at control net producer places b j ≡ true
   within_fed j e =
-      within-yes (cut_at control rows producer b j) (leb (get_or places (feeder rows producer b j) 0) limit) (not (unplaced places (feeder rows producer b j))) e
+      within-yes (cut_at control net producer b j) (leb (get_or places (feeder net producer b j) 0) limit) (not (unplaced places (feeder net producer b j))) e
+
+  -- by the answers of the two functions that the order reads
+  pub fed-is : (j : ℕ) (free fed : Bool) → free ≡ cut_at control net producer b j
+      → fed ≡ (free || (leb (get_or places (feeder net producer b j) 0) limit && not (unplaced places (feeder net producer b j)))) → fed ≡ within j
+  fed-is j free fed e f = f ∙ ap (λ (t : Bool). t || (leb (get_or places (feeder net producer b j) 0) limit && not (unplaced places (feeder net producer b j)))) e
 
   -- the answers whether b may be placed
-  pub judged_no : (j : ℕ) → j < row_ins rows b → within j ≡ false → Judged control rows producer limit b places false
+  pub judged_no : (j : ℕ) → j < ins (block_at net b) → within j ≡ false → Judged control net producer limit b places false
   unfolding may_place
   judged_no j h e =
       record {
         yes = λ t. clash t refl;
         no = λ f low.
-            all_fails (fed_at control rows producer places b) (row_ins rows b) j h
-            (within_no (cut_at control rows producer b j) (leb (get_or places (feeder rows producer b j) 0) limit) (not (unplaced places (feeder rows producer b j)))
-            (le-leb (get_or places (feeder rows producer b j) 0) limit (low j h)) e);
+            all_fails (fed_at control net producer places b) (ins (block_at net b)) j h
+            (within_no (cut_at control net producer b j) (leb (get_or places (feeder net producer b j) 0) limit) (not (unplaced places (feeder net producer b j)))
+            (le-leb (get_or places (feeder net producer b j) 0) limit (low j h)) e);
       }
 
-  pub judged_yes : (j : ℕ) → row_ins rows b ≤ j → all_below (fed_at control rows producer places b) j ≡ true → Judged control rows producer limit b places true
+  pub judged_yes : (j : ℕ) → ins (block_at net b) ≤ j → all_below (fed_at control net producer places b) j ≡ true → Judged control net producer limit b places true
   unfolding may_place
-  judged_yes j h a = record { yes = λ t. all_less (fed_at control rows producer places b) j (row_ins rows b) h a; no = λ f low. clash refl f }
+  judged_yes j h a = record { yes = λ t. all_less (fed_at control net producer places b) j (ins (block_at net b)) h a; no = λ f low. clash refl f }
 
-  module _ (may : Bool) (z : get_or places b 0 ≡ 0) (m : Judged control rows producer limit b places may) where
-    pub next-yes : may ≡ true → next_at control rows producer places b ≡ true
+  module _ (may : Bool) (z : get_or places b 0 ≡ 0) (m : Judged control net producer limit b places may) where
+    pub next-yes : may ≡ true → next_at control net producer places b ≡ true
     next-yes t = rw (eq-eqb (get_or places b 0) 0 z) (m.yes t)
 
-    passed-waits : may ≡ false → ((j : ℕ) → j < row_ins rows b → get_or places (feeder rows producer b j) 0 ≤ limit) → passed_at control rows producer places b ≡ true
+    passed-waits : may ≡ false → ((j : ℕ) → j < ins (block_at net b) → get_or places (feeder net producer b j) 0 ≤ limit) → passed_at control net producer places b ≡ true
     passed-waits f low = rw (eq-eqb (get_or places b 0) 0 z, m.no f low)
 
-pub feeds_more : (rows producer : List ℕ) (size n b : ℕ) → size ≤ n → Feeds rows producer size b → Feeds rows producer n b
-feeds_more rows producer size n b h f =
-    record { few = f.few; channel_low = f.channel_low; feeder-low = λ j q. omega (arith, f.feeder-low j q) }
+-- what a reader of block b's inputs may rely on: their channels are below 128, and their producers are blocks of the net
+pub record Reads (net : Net) (producer : List ℕ) (b : ℕ) : Type 0 where
+  pub channel_low : (j : ℕ) → j < ins (block_at net b) → get_or (block_at net b).ports j 0 < 128
+  pub feeder-low : (j : ℕ) → j < ins (block_at net b) → feeder net producer b j < net.size
 
 -- ## Progress
 
 never_below : (k : ℕ) → k < 0 → ⊥
 never_below k h = omega arith
 
-module _ (control : Bool) (rows producer : List ℕ) (size : ℕ) where
-  pub progress_start : size ≤ 64 → Progress control rows producer size 0 (replicate 64 0) (replicate 64 0)
+module _ (control : Bool) (net : Net) (producer : List ℕ) where
+  pub progress_start : net.size ≤ 64 → Progress control net producer 0 (replicate 64 0) (replicate 64 0)
   progress_start s =
       record {
-        total = omega (arith, count_all (unplaced (replicate 64 0)) size (λ i h. eq-eqb (get_or (replicate 64 0) i 0) 0 (get_or-replicate {A = ℕ} 64 i 0 0 (omega arith))));
+        total = omega (arith, count_all (unplaced (replicate 64 0)) net.size (λ i h. eq-eqb (get_or (replicate 64 0) i 0) 0 (get_or-replicate {A = ℕ} 64 i 0 0 (omega arith))));
         blocks-long = length-replicate {A = ℕ} 64 0;
         places-long = length-replicate {A = ℕ} 64 0;
         bounded = λ i h. omega (arith, get_or-replicate {A = ℕ} 64 i 0 0 (omega arith));
@@ -101,17 +106,17 @@ module _ (control : Bool) (rows producer : List ℕ) (size : ℕ) where
         stands = λ i h n. absurd (n (get_or-replicate {A = ℕ} 64 i 0 0 (omega arith)));
       }
 
-  module _ (count : ℕ) (blocks places : List ℕ) (p : Progress control rows producer size count blocks places) (s : size ≤ 64) (i : ℕ) (h : i < size)
-      (next : next_at control rows producer places i ≡ true) where
+  module _ (count : ℕ) (blocks places : List ℕ) (p : Progress control net producer count blocks places) (s : net.size ≤ 64) (i : ℕ) (h : i < net.size)
+      (next : next_at control net producer places i ≡ true) where
     free : get_or places i 0 ≡ 0
-    free = eqb-true (get_or places i 0) 0 (and_1 (unplaced places i) (may_place control rows producer places i) next)
+    free = eqb-true (get_or places i 0) 0 (and_1 (unplaced places i) (may_place control net producer places i) next)
 
-    may : may_place control rows producer places i ≡ true
-    may = and_2 (unplaced places i) (may_place control rows producer places i) next
+    may : may_place control net producer places i ≡ true
+    may = and_2 (unplaced places i) (may_place control net producer places i) next
 
     -- there is room for one more
-    pub room : count < size
-    room = omega (arith, p.total, count_step (unplaced places) size i h (eq-eqb (get_or places i 0) 0 free))
+    pub room : count < net.size
+    room = omega (arith, p.total, count_step (unplaced places) net.size i h (eq-eqb (get_or places i 0) 0 free))
 
     there : get_or (set places i (count + 1)) i 0 ≡ count + 1
     there = get_or-set_same places i (count + 1) 0 (omega (arith, p.places-long))
@@ -123,17 +128,17 @@ module _ (control : Bool) (rows producer : List ℕ) (size : ℕ) where
     kept : (k : ℕ) → 0 < get_or places k 0 → get_or (set places i (count + 1)) k 0 ≡ get_or places k 0
     kept k n = elsewhere k (λ e. omega (arith, free, ap (λ (x : ℕ). get_or places x 0) e))
 
-    next-total : (count + 1) + count_below (unplaced (set places i (count + 1))) size ≡ size
+    next-total : (count + 1) + count_below (unplaced (set places i (count + 1))) net.size ≡ net.size
     next-total =
         omega (
           arith,
           p.total,
-          count-drop (unplaced places) (unplaced (set places i (count + 1))) size i h (eq-eqb (get_or places i 0) 0 free)
+          count-drop (unplaced places) (unplaced (set places i (count + 1))) net.size i h (eq-eqb (get_or places i 0) 0 free)
               (rw there (ne_eqb (count + 1) 0 (omega arith)))
               (λ k n. ap (λ (x : ℕ). eqb x 0) (elsewhere k n)),
         )
 
-    next-bounded : (k : ℕ) → k < size → get_or (set places i (count + 1)) k 0 ≤ count + 1
+    next-bounded : (k : ℕ) → k < net.size → get_or (set places i (count + 1)) k 0 ≤ count + 1
     next-bounded k q = go (ℕ_discrete k i)
       where
         go : Dec (k ≡ i) → get_or (set places i (count + 1)) k 0 ≤ count + 1
@@ -141,53 +146,53 @@ module _ (control : Bool) (rows producer : List ℕ) (size : ℕ) where
         go (no n) = rw (elsewhere k n) (omega (arith, p.bounded k q))
 
     -- the block that is placed now comes after the producers of its inputs
-    after-new : Feeds rows producer size i → After control rows producer (set places i (count + 1)) i
+    after-new : Reads net producer i → After control net producer (set places i (count + 1)) i
     unfolding may_place
-    after-new feeds j q = go (or_cases (cut_at control rows producer i j) (not (unplaced places from)) (all_at (fed_at control rows producer places i) (row_ins rows i) may j q))
+    after-new feeds j q = go (or_cases (cut_at control net producer i j) (not (unplaced places from)) (all_at (fed_at control net producer places i) (ins (block_at net i)) may j q))
       where
         from : ℕ
-        from = feeder rows producer i j
+        from = feeder net producer i j
 
-        go : (cut_at control rows producer i j ≡ true) ⊎ (not (unplaced places from) ≡ true)
-            → (cut_at control rows producer i j ≡ true) ⊎ ((0 < get_or (set places i (count + 1)) from 0) × (get_or (set places i (count + 1)) from 0 < get_or (set places i (count + 1)) i 0))
+        go : (cut_at control net producer i j ≡ true) ⊎ (not (unplaced places from) ≡ true)
+            → (cut_at control net producer i j ≡ true) ⊎ ((0 < get_or (set places i (count + 1)) from 0) × (get_or (set places i (count + 1)) from 0 < get_or (set places i (count + 1)) i 0))
         go (inl e) = inl e
         go (inr e) =
             let z : 0 < get_or places from 0 = omega (arith, eqb-false (get_or places from 0) 0 (not-true (unplaced places from) e)) in
             inr (rw (kept from z) z, rw (kept from z, there) (omega (arith, p.bounded from (feeds.feeder-low j q))))
 
-    after-old : (k : ℕ) → (k ≡ i → ⊥) → After control rows producer places k → After control rows producer (set places i (count + 1)) k
+    after-old : (k : ℕ) → (k ≡ i → ⊥) → After control net producer places k → After control net producer (set places i (count + 1)) k
     after-old k n f j q = go (f j q)
       where
         from : ℕ
-        from = feeder rows producer k j
+        from = feeder net producer k j
 
-        go : (cut_at control rows producer k j ≡ true) ⊎ ((0 < get_or places from 0) × (get_or places from 0 < get_or places k 0))
-            → (cut_at control rows producer k j ≡ true) ⊎ ((0 < get_or (set places i (count + 1)) from 0) × (get_or (set places i (count + 1)) from 0 < get_or (set places i (count + 1)) k 0))
+        go : (cut_at control net producer k j ≡ true) ⊎ ((0 < get_or places from 0) × (get_or places from 0 < get_or places k 0))
+            → (cut_at control net producer k j ≡ true) ⊎ ((0 < get_or (set places i (count + 1)) from 0) × (get_or (set places i (count + 1)) from 0 < get_or (set places i (count + 1)) k 0))
         go (inl e) = inl e
         go (inr w) = inr (rw (kept from w.0) w.0, rw (kept from w.0, elsewhere k n) w.1)
 
-    next-after : Feeds rows producer size i → (k : ℕ) → k < size → (get_or (set places i (count + 1)) k 0 ≡ 0 → ⊥)
-        → After control rows producer (set places i (count + 1)) k
+    next-after : Reads net producer i → (k : ℕ) → k < net.size → (get_or (set places i (count + 1)) k 0 ≡ 0 → ⊥)
+        → After control net producer (set places i (count + 1)) k
     next-after feeds k q n = go (ℕ_discrete k i)
       where
-        go : Dec (k ≡ i) → After control rows producer (set places i (count + 1)) k
-        go (yes e) = subst (λ (x : ℕ). After control rows producer (set places i (count + 1)) x) (sym e) (after-new feeds)
+        go : Dec (k ≡ i) → After control net producer (set places i (count + 1)) k
+        go (yes e) = subst (λ (x : ℕ). After control net producer (set places i (count + 1)) x) (sym e) (after-new feeds)
         go (no e) = after-old k e (p.after k q (λ z. n (elsewhere k e ∙ z)))
 
     next-listed : (k : ℕ) → k < count + 1
-        → (get_or (set blocks count i) k 0 < size) × (get_or (set places i (count + 1)) (get_or (set blocks count i) k 0) 0 ≡ k + 1)
+        → (get_or (set blocks count i) k 0 < net.size) × (get_or (set places i (count + 1)) (get_or (set blocks count i) k 0) 0 ≡ k + 1)
     next-listed k q = go (ℕ_discrete k count)
       where
-        go : Dec (k ≡ count) → (get_or (set blocks count i) k 0 < size) × (get_or (set places i (count + 1)) (get_or (set blocks count i) k 0) 0 ≡ k + 1)
+        go : Dec (k ≡ count) → (get_or (set blocks count i) k 0 < net.size) × (get_or (set places i (count + 1)) (get_or (set blocks count i) k 0) 0 ≡ k + 1)
         go (yes e) =
             let r : get_or (set blocks count i) count 0 ≡ i = get_or-set_same blocks count i 0 (omega (arith, room, p.blocks-long)) in
             rw (e, r) (h, there)
         go (no e) =
             let r : get_or (set blocks count i) k 0 ≡ get_or blocks k 0 = get_or-set_other blocks count k i 0 e in
-            let l : (get_or blocks k 0 < size) × (get_or places (get_or blocks k 0) 0 ≡ k + 1) = p.listed k (omega arith) in
+            let l : (get_or blocks k 0 < net.size) × (get_or places (get_or blocks k 0) 0 ≡ k + 1) = p.listed k (omega arith) in
             rw r (l.0, kept (get_or blocks k 0) (omega (arith, l.1)) ∙ l.1)
 
-    next-stands : (k : ℕ) → k < size → (get_or (set places i (count + 1)) k 0 ≡ 0 → ⊥)
+    next-stands : (k : ℕ) → k < net.size → (get_or (set places i (count + 1)) k 0 ≡ 0 → ⊥)
         → get_or (set blocks count i) (get_or (set places i (count + 1)) k 0 - 1) 0 ≡ k
     next-stands k q n = go (ℕ_discrete k i)
       where
@@ -199,7 +204,7 @@ module _ (control : Bool) (rows producer : List ℕ) (size : ℕ) where
             let m : get_or places k 0 ≡ 0 → ⊥ = λ z. n (elsewhere k e ∙ z) in
             rw (elsewhere k e) (get_or-set_other blocks count (get_or places k 0 - 1) i 0 (omega (arith, p.bounded k q)) ∙ p.stands k q m)
 
-    pub progress_step : Feeds rows producer size i → Progress control rows producer size (count + 1) (set blocks count i) (set places i (count + 1))
+    pub progress_step : Reads net producer i → Progress control net producer (count + 1) (set blocks count i) (set places i (count + 1))
     progress_step feeds =
         record {
           total = next-total;
@@ -212,17 +217,17 @@ module _ (control : Bool) (rows producer : List ℕ) (size : ℕ) where
         }
 
   -- the ways of one block
-  module _ (limit count b : ℕ) (blocks places : List ℕ) (p : Progress control rows producer size count blocks places) where
-    pub stepped-place : size ≤ 64 → b < size → Feeds rows producer size b → next_at control rows producer places b ≡ true
-        → Stepped control rows producer size limit count b (count + 1) (set blocks count b) places (set places b (count + 1))
-    stepped-place s h f n = record { progress = progress_step count blocks places p s b h n f; either = inl refl }
+  module _ (limit b : ℕ) (o : Order) (p : Placed control net producer o) where
+    pub stepped-place : net.size ≤ 64 → b < net.size → Reads net producer b → next_at control net producer o.places b ≡ true
+        → Stepped control net producer limit b o (record { count = o.count + 1; blocks = set o.blocks o.count b; places = set o.places b (o.count + 1) })
+    stepped-place s h f n = record { progress = progress_step o.count o.blocks o.places p s b h n f; either = inl refl }
 
-    pub stepped-placed : (get_or places b 0 ≡ 0 → ⊥) → Stepped control rows producer size limit count b count blocks places places
-    stepped-placed n = record { progress = p; either = inr (refl, refl, λ l. rw (ne_eqb (get_or places b 0) 0 n)) }
+    pub stepped-placed : (get_or o.places b 0 ≡ 0 → ⊥) → Stepped control net producer limit b o o
+    stepped-placed n = record { progress = p; either = inr (refl, refl, λ l. rw (ne_eqb (get_or o.places b 0) 0 n)) }
 
     -- what is placed is within the count, so within the limit where the count is
-    pub stepped-waits : (may : Bool) → Feeds rows producer size b → get_or places b 0 ≡ 0 → Judged control rows producer limit b places may → may ≡ false
-        → Stepped control rows producer size limit count b count blocks places places
+    pub stepped-waits : (may : Bool) → Reads net producer b → get_or o.places b 0 ≡ 0 → Judged control net producer limit b o.places may → may ≡ false
+        → Stepped control net producer limit b o o
     stepped-waits may f z m e =
         record {
           progress = p;
@@ -231,64 +236,63 @@ module _ (control : Bool) (rows producer : List ℕ) (size : ℕ) where
                 refl,
                 refl,
                 λ l.
-                    passed-waits control rows producer limit b places may z m e (λ j q. omega (arith, l, p.bounded (feeder rows producer b j) (f.feeder-low j q))),
+                    passed-waits control net producer limit b o.places may z m e (λ j q. omega (arith, l, p.bounded (feeder net producer b j) (f.feeder-low j q))),
               );
         }
 
+  -- a block that can be placed has room in the order
+  pub room-for : (o : Order) → fields_ok net ≡ true → (limit : ℕ) → Placed control net producer o → (b : ℕ) → b < net.size → get_or o.places b 0 ≡ 0 → {may : Bool}
+      → Judged control net producer limit b o.places may → may ≡ true → o.count < 64
+  room-for o ok limit p b h z {may} m t =
+      omega (
+        arith,
+        size-high net ok,
+        room o.count o.blocks o.places p (size-high net ok) b h (next-yes control net producer limit b o.places may z m t),
+      )
+
   -- a sweep so far: the blocks before b are passed, if nothing was placed
-  pub record Sweeping (count placed b : ℕ) (blocks places : List ℕ) : Type 0 where
-    pub progress : Progress control rows producer size placed blocks places
-    pub grown : count ≤ placed
-    pub passed : placed ≡ count → all_below (passed_at control rows producer places) b ≡ true
+  pub record Sweeping (count b : ℕ) (o : Order) : Type 0 where
+    pub progress : Placed control net producer o
+    pub grown : count ≤ o.count
+    pub passed : o.count ≡ count → all_below (passed_at control net producer o.places) b ≡ true
 
-  pub sweeping_start : (count : ℕ) (blocks places : List ℕ) → Progress control rows producer size count blocks places → Sweeping count count 0 blocks places
-  sweeping_start count blocks places p = record { progress = p; grown = omega arith; passed = λ e. all_none (passed_at control rows producer places) }
+  pub sweeping_start : (o : Order) → Placed control net producer o → Sweeping o.count 0 o
+  sweeping_start o p = record { progress = p; grown = omega arith; passed = λ e. all_none (passed_at control net producer o.places) }
 
-  pub sweeping_step : (count placed next b : ℕ) (olds blocks old places : List ℕ) → Sweeping count placed b olds old
-      → Stepped control rows producer size count placed b next blocks old places → Sweeping count next (b + 1) blocks places
-  sweeping_step count placed next b olds blocks old places s t = go t.either
+  pub sweeping_step : (count b : ℕ) (old new : Order) → Sweeping count b old → Stepped control net producer count b old new → Sweeping count (b + 1) new
+  sweeping_step count b old new s t = go t.either
     where
-      go : (next ≡ placed + 1) ⊎ ((next ≡ placed) × (places ≡ old) × (placed ≤ count → passed_at control rows producer old b ≡ true)) → Sweeping count next (b + 1) blocks places
+      go : (new.count ≡ old.count + 1) ⊎ ((new.count ≡ old.count) × (new.places ≡ old.places) × (old.count ≤ count → passed_at control net producer old.places b ≡ true))
+          → Sweeping count (b + 1) new
       go (inl e) = record { progress = t.progress; grown = omega (arith, s.grown); passed = λ f. absurd (never f) }
         where
-          never : next ≡ count → ⊥
+          never : new.count ≡ count → ⊥
           never f = omega (arith, s.grown)
       go (inr w) =
           record {
             progress = t.progress;
             grown = omega (arith, s.grown, w.0);
             passed = λ f.
-                subst (λ (l : List ℕ). all_below (passed_at control rows producer l) (b + 1) ≡ true) (sym w.1)
-                (all_more (passed_at control rows producer old) b (s.passed (sym w.0 ∙ f)) (w.2 (omega (arith, w.0, f))));
+                subst (λ (l : List ℕ). all_below (passed_at control net producer l) (b + 1) ≡ true) (sym w.1)
+                (all_more (passed_at control net producer old.places) b (s.passed (sym w.0 ∙ f)) (w.2 (omega (arith, w.0, f))));
           }
 
-  pub sweeping_end : (count placed b : ℕ) (blocks places : List ℕ) → size ≤ b → Sweeping count placed b blocks places → Swept control rows producer size count placed blocks places
-  sweeping_end count placed b blocks places h s =
+  pub sweeping_end : (count b : ℕ) (o : Order) → net.size ≤ b → Sweeping count b o → Swept control net producer count o
+  sweeping_end count b o h s =
       record {
         progress = s.progress;
         grown = s.grown;
-        stuck = λ e. all_less (passed_at control rows producer places) b size h (s.passed e);
+        stuck = λ e. all_less (passed_at control net producer o.places) b net.size h (s.passed e);
       }
 
-  -- the answers
-  pub halts : (count next : ℕ) (blocks places order : List ℕ) → count < size → next ≡ count → Swept control rows producer size count next blocks places
-      → Ordered control rows producer size false order
-  halts count next blocks places order h e s =
-      record {
-        whole = λ t. clash t refl;
-        halted = λ f. record { count = next; blocks = blocks; places = places; progress = s.progress; left = omega arith; stuck = s.stuck e };
-      }
+  -- what the answers show
+  pub halted : (count : ℕ) (o : Order) → count < net.size → o.count ≡ count → Swept control net producer count o → Halted control net producer
+  halted count o h e s =
+      record { count = o.count; blocks = o.blocks; places = o.places; progress = s.progress; left = omega arith; stuck = s.stuck e }
 
-  pub ends : (count : ℕ) (blocks places : List ℕ) → size ≤ count → Progress control rows producer size count blocks places → Ordered control rows producer size true blocks
-  ends count blocks places h p =
-      record {
-        whole = λ t.
-            record {
-              places = places;
-              progress = subst (λ (n : ℕ). Progress control rows producer size n blocks places) (omega (arith, p.total)) p;
-            };
-        halted = λ f. clash refl f;
-      }
+  pub whole : (o : Order) → net.size ≤ o.count → Placed control net producer o → Whole control net producer o.blocks
+  whole o h p =
+      record { places = o.places; progress = subst (λ (n : ℕ). Progress control net producer n o.blocks o.places) (omega (arith, p.total)) p }
 
 -- ## What an order says of the net
 
@@ -298,38 +302,37 @@ no_free_loop net control order o l =
     no_loop (LeadsFree net control) o.place
     (λ c a b s. o.grows c a b s.leads (uncut control (block_at net a).kind (block_at net b).kind s.from_free s.to_free)) (by_ends net control l)
 
-module _ (net : Net) (control : Bool) (rows producer : List ℕ) (all : Rows net rows) (ok : fields_ok net ≡ true) (table : Table net true producer) where
+module _ (net : Net) (control : Bool) (producer : List ℕ) (ok : fields_ok net ≡ true) (table : Table net true producer) where
   -- input j of block b, its channel and its producer
-  module _ (b : ℕ) (h : b < net.size) (j : ℕ) (q : j < row_ins rows b) where
-    input-in : j < ins (block_at net b)
-    input-in = subst (λ (n : ℕ). j < n) (ins_in net rows all b h) q
-
+  module _ (b : ℕ) (h : b < net.size) (j : ℕ) (q : j < ins (block_at net b)) where
     ten : j < 10
-    ten = omega (arith, input-in, ins-small (block_at net b))
-
-    channel_is : row_port rows b j ≡ get_or (block_at net b).ports j 0
-    channel_is = port_in net rows all b h j ten
+    ten = omega (arith, ins-small (block_at net b))
 
     channel-below : get_or (block_at net b).ports j 0 < net.channels
-    channel-below = port-small (block_at net b) j net.channels false (block_in net ok b h) (input_side (block_at net b) j input-in)
+    channel-below = port-small (block_at net b) j net.channels false (block_in net ok b h) (input_side (block_at net b) j q)
 
-    feeder-is : TheBlock net true (get_or (block_at net b).ports j 0) (feeder rows producer b j)
-    feeder-is = rw channel_is (table (get_or (block_at net b).ports j 0) channel-below)
-
-    cut-is : cut_at control rows producer b j ≡ cuts control (block_at net (feeder rows producer b j)).kind (block_at net b).kind
-    cut-is = ap₂ (cuts control) (kind_in_lem net rows all (feeder rows producer b j) feeder-is.has.in_net) (kind_in_lem net rows all b h)
+    feeder-is : TheBlock net true (get_or (block_at net b).ports j 0) (feeder net producer b j)
+    feeder-is = table (get_or (block_at net b).ports j 0) channel-below
 
   -- what the order reads
-  pub feeds_of : (b : ℕ) → b < net.size → Feeds rows producer net.size b
-  feeds_of b h =
+  pub reads_of : (b : ℕ) → b < net.size → Reads net producer b
+  reads_of b h =
       record {
-        few = omega (arith, ins_in net rows all b h, ins-small (block_at net b));
-        channel_low = λ j q. omega (arith, channel_is b h j q, channel-below b h j q, channels-high net ok);
+        channel_low = λ j q. omega (arith, channel-below b h j q, channels-high net ok);
         feeder-low = λ j q. (feeder-is b h j q).has.in_net;
       }
 
+  -- an input that is read
+  pub read-in : (b : ℕ) → b < net.size → (n : ℕ) → n ≡ ins (block_at net b) → (j : ℕ) → j < n
+      → (j < 10) × (get_or (block_at net b).ports j 0 < 128) × (feeder net producer b j < 64)
+  read-in b h n e j q = (
+    omega (arith, ins-small (block_at net b)),
+    (reads_of b h).channel_low j (omega arith),
+    omega (arith, (reads_of b h).feeder-low j (omega arith), size-high net ok),
+  )
+
   -- every block is placed
-  module _ (blocks : List ℕ) (w : Whole control rows producer net.size blocks) where
+  module _ (blocks : List ℕ) (w : Whole control net producer blocks) where
     abbrev at : ℕ → ℕ
     at i = get_or w.places i 0
 
@@ -346,14 +349,14 @@ module _ (net : Net) (control : Bool) (rows producer : List ℕ) (all : Rows net
         j : ℕ
         j = l.enters.port
 
-        q : j < row_ins rows b
-        q = rw (ins_in net rows all b h) (side_input (block_at net b) j l.enters.on_side_lem)
+        q : j < ins (block_at net b)
+        q = (side_input (block_at net b) j l.enters.on_side_lem)
 
-        a-is : a ≡ feeder rows producer b j
+        a-is : a ≡ feeder net producer b j
         a-is = (feeder-is b h j q).only a (subst (λ (x : ℕ). HasPort net true x a) (sym l.enters.names) l.leaves)
 
-        go : (cut_at control rows producer b j ≡ true) ⊎ ((0 < at (feeder rows producer b j)) × (at (feeder rows producer b j) < at b)) → at a < at b
-        go (inl e) = clash (subst (λ (x : ℕ). cuts control (block_at net x).kind (block_at net b).kind ≡ true) (sym a-is) (sym (cut-is b h j q) ∙ e)) free
+        go : (cut_at control net producer b j ≡ true) ⊎ ((0 < at (feeder net producer b j)) × (at (feeder net producer b j) < at b)) → at a < at b
+        go (inl e) = clash (subst (λ (x : ℕ). cuts control (block_at net x).kind (block_at net b).kind ≡ true) (sym a-is) e) free
         go (inr x) = subst (λ (y : ℕ). at y < at b) (sym a-is) x.1
 
     pub in_order : InOrder net control blocks
@@ -366,20 +369,20 @@ module _ (net : Net) (control : Bool) (rows producer : List ℕ) (all : Rows net
         }
 
   -- blocks are left that cannot be placed: one that is left waits for another that is left, along a channel that is not cut
-  module _ (s : Halted control rows producer net.size) where
+  module _ (s : Halted control net producer) where
     abbrev Left : ℕ → Type 0
     Left x = (x < net.size) × (unplaced s.places x ≡ true)
 
-    waits : (x : ℕ) → Left x → (j : ℕ) × (j < row_ins rows x) × (cut_at control rows producer x j ≡ false) × (unplaced s.places (feeder rows producer x j) ≡ true)
+    waits : (x : ℕ) → Left x → (j : ℕ) × (j < ins (block_at net x)) × (cut_at control net producer x j ≡ false) × (unplaced s.places (feeder net producer x j) ≡ true)
     unfolding may_place
     waits x l =
-        let n : next_at control rows producer s.places x ≡ false =
-        not-true (next_at control rows producer s.places x) (all_at (passed_at control rows producer s.places) net.size s.stuck x l.0) in
-        let f : (j : ℕ) × (j < row_ins rows x) × (fed_at control rows producer s.places x j ≡ false) =
-        fails_at (fed_at control rows producer s.places x) (row_ins rows x) (rw l.1 at n) in
-        let e : (cut_at control rows producer x f.0 ≡ false) × (not (unplaced s.places (feeder rows producer x f.0)) ≡ false) =
-        (or_1 (cut_at control rows producer x f.0) (not (unplaced s.places (feeder rows producer x f.0))) f.2, or_2 (cut_at control rows producer x f.0) (not (unplaced s.places (feeder rows producer x f.0))) f.2) in
-        (f.0, f.1, e.0, not-false (unplaced s.places (feeder rows producer x f.0)) e.1)
+        let n : next_at control net producer s.places x ≡ false =
+        not-true (next_at control net producer s.places x) (all_at (passed_at control net producer s.places) net.size s.stuck x l.0) in
+        let f : (j : ℕ) × (j < ins (block_at net x)) × (fed_at control net producer s.places x j ≡ false) =
+        fails_at (fed_at control net producer s.places x) (ins (block_at net x)) (rw l.1 at n) in
+        let e : (cut_at control net producer x f.0 ≡ false) × (not (unplaced s.places (feeder net producer x f.0)) ≡ false) =
+        (or_1 (cut_at control net producer x f.0) (not (unplaced s.places (feeder net producer x f.0))) f.2, or_2 (cut_at control net producer x f.0) (not (unplaced s.places (feeder net producer x f.0))) f.2) in
+        (f.0, f.1, e.0, not-false (unplaced s.places (feeder net producer x f.0)) e.1)
 
     abbrev Free : ℕ → Type 0
     Free x = is_buffer control (block_at net x).kind ≡ false
@@ -388,7 +391,7 @@ module _ (net : Net) (control : Bool) (rows producer : List ℕ) (all : Rows net
     free_of : (y kind : ℕ) → Left y → cuts control (block_at net y).kind kind ≡ false → Free y
     free_of y kind l e =
         let w = waits y l in
-        between control (block_at net (feeder rows producer y w.0)).kind (block_at net y).kind kind e (sym (cut-is y l.0 w.0 w.1) ∙ w.2)
+        between control (block_at net (feeder net producer y w.0)).kind (block_at net y).kind kind e w.2
 
     abbrev Waiting : ℕ → Type 0
     Waiting x = Left x × Free x
@@ -397,10 +400,10 @@ module _ (net : Net) (control : Bool) (rows producer : List ℕ) (all : Rows net
     step x l =
         let w = waits x l in
         let t = feeder-is x l.0 w.0 w.1 in
-        let y : Left (feeder rows producer x w.0) = (t.has.in_net, w.3) in (
-          feeder rows producer x w.0,
+        let y : Left (feeder net producer x w.0) = (t.has.in_net, w.3) in (
+          feeder net producer x w.0,
           get_or (block_at net x).ports w.0 0,
-          (y, free_of (feeder rows producer x w.0) (block_at net x).kind y (sym (cut-is x l.0 w.0 w.1) ∙ w.2)),
+          (y, free_of (feeder net producer x w.0) (block_at net x).kind y w.2),
           record {
             leaves = t.has;
             enters =
@@ -408,7 +411,7 @@ module _ (net : Net) (control : Bool) (rows producer : List ℕ) (all : Rows net
                   port = w.0;
                   in_net = l.0;
                   in_block = ten x l.0 w.0 w.1;
-                  on_side_lem = input_side (block_at net x) w.0 (input-in x l.0 w.0 w.1);
+                  on_side_lem = input_side (block_at net x) w.0 w.1;
                   names = refl;
                 };
           },

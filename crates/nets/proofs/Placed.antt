@@ -5,24 +5,21 @@ use mathlib.Core.Path.{◌≡◌, refl, ap}
 use mathlib.Core.Bool.{Bool, true, false}
 use mathlib.Core.List.{List, [], ◌∷◌}
 use mathlib.Core.Logic.{◌⊎◌, inl, inr}
-use Prim.Native.Nat.{ℕ, zero, suc, ◌+◌, ◌*◌, ◌/◌, ◌%◌, ◌<◌}
+use Prim.Native.Nat.{ℕ, zero, suc, ◌+◌, ◌/◌, ◌<◌}
 use native.Mathlib.Decide.{ℕ_discrete}
 use native.Mathlib.Omega.{arith}
 use borrow.Author.Tests.{not-false}
 use lib.ListN.{length, get_or, set, replicate}
 use Rattle.blocks.specs.Folds.{all_below}
 use Rattle.blocks.proofs.Folds.{which, fails_at}
-use Rattle.nets.specs.Block.{ins, outs}
-use Rattle.nets.specs.Net.{block_at, fields_ok, connected, place_of}
+use Rattle.nets.specs.Net.{fields_ok, connected, place_of}
 use Rattle.nets.specs.Loops.{FreeLoop}
 use Rattle.nets.specs.Promises.{Table, InOrder}
-use Rattle.nets.specs.Rows.{Rows}
 use Rattle.nets.specs.Order.{next_at, passed_at, Progress}
-use Rattle.nets.specs.declared.Block.{Block}
-use Rattle.nets.specs.declared.Net.{Net}
+use Rattle.blocks.specs.declared.Net.{Net}
 use Rattle.nets.proofs.Nets.{size-high}
 use Rattle.nets.proofs.Places.{the_end}
-use Rattle.nets.proofs.Orders.{feeds_of, progress_start, progress_step, in_order, free-loop}
+use Rattle.nets.proofs.Orders.{reads_of, progress_start, progress_step, in_order, free-loop}
 
 -- f 0, .., f (n - 1)
 abbrev pub list_of : (ℕ → ℕ) → ℕ → List ℕ
@@ -38,33 +35,7 @@ pub listed-long : (f : ℕ → ℕ) (n : ℕ) → length (list_of f n) ≡ n
 listed-long f zero = refl
 listed-long f (suc n) = ap suc (listed-long (λ i. f (suc i)) n)
 
--- ## The rows and the table of producers
-
--- number k of a block's row
-abbrev number_in : Block → ℕ → ℕ
-number_in b zero = b.kind
-number_in b (suc zero) = ins b
-number_in b (suc (suc zero)) = ins b + outs b
-number_in b (suc (suc (suc j))) = get_or b.ports j 0
-
-module _ (net : Net) where
-  abbrev rows_of : List ℕ
-  rows_of = list_of (λ q. number_in (block_at net (q / 13)) (q % 13)) (net.size * 13)
-
-  row_number : (i k q : ℕ) → i < net.size → k < 13 → q ≡ i * 13 + k → get_or rows_of q 0 ≡ number_in (block_at net i) k
-  row_number i k q h s e =
-      let d : q / 13 ≡ i = omega arith in
-      let m : q % 13 ≡ k = omega arith in
-      rw (listed_at (λ q. number_in (block_at net (q / 13)) (q % 13)) (net.size * 13) q (omega arith), d, m)
-
-  rows_of_lem : Rows net rows_of
-  rows_of_lem i h =
-      record {
-        kind_is = row_number i 0 (i * 13) h (omega arith) (omega arith);
-        ins_is = row_number i 1 (i * 13 + 1) h (omega arith) (omega arith);
-        all_is = row_number i 2 (i * 13 + 2) h (omega arith) (omega arith);
-        port_is = λ j q. row_number i (suc (suc (suc j))) (i * 13 + 3 + j) h (omega arith) (omega arith);
-      }
+-- ## The table of producers
 
 module _ (net : Net) (ok : fields_ok net ≡ true) (joins : connected net ≡ true) where
   abbrev producers : List ℕ
@@ -81,40 +52,40 @@ module _ (net : Net) (ok : fields_ok net ≡ true) (joins : connected net ≡ tr
     Found = ((order : List ℕ) × InOrder net control order) ⊎ FreeLoop net control
 
     abbrev Placed : ℕ → List ℕ → List ℕ → Type 0
-    Placed count blocks places = Progress control (rows_of net) producers net.size count blocks places
+    Placed count blocks places = Progress control net producers count blocks places
 
     whole : (count : ℕ) (blocks places : List ℕ) → Placed count blocks places → count ≡ net.size → Found
     whole count blocks places p e =
-        inl (blocks, in_order net control (rows_of net) producers (rows_of_lem net) ok table blocks (record { places = places; progress = rw e at p }))
+        inl (blocks, in_order net control producers ok table blocks (record { places = places; progress = rw e at p }))
 
     -- one more block is placed, or none can be
     place-next : (count : ℕ) (blocks places : List ℕ) → Placed count blocks places → ((blocks places : List ℕ) → Placed (count + 1) blocks places → Found)
-        → (all_below (passed_at control (rows_of net) producers places) net.size ≡ true)
-        ⊎ (all_below (passed_at control (rows_of net) producers places) net.size ≡ false) → Found
+        → (all_below (passed_at control net producers places) net.size ≡ true)
+        ⊎ (all_below (passed_at control net producers places) net.size ≡ false) → Found
     place-next count blocks places p rec (inl stuck) = stop (ℕ_discrete count net.size)
       where
         stop : Dec (count ≡ net.size) → Found
         stop (yes e) = whole count blocks places p e
         stop (no e) =
             inr
-            (free-loop net control (rows_of net) producers (rows_of_lem net) ok table
+            (free-loop net control producers ok table
             (record { count = count; blocks = blocks; places = places; progress = p; left = omega (arith, p.total); stuck = stuck }))
     place-next count blocks places p rec (inr more) =
-        let r : (i : ℕ) × (i < net.size) × (passed_at control (rows_of net) producers places i ≡ false) =
-        fails_at (passed_at control (rows_of net) producers places) net.size more in
-        let next : next_at control (rows_of net) producers places r.0 ≡ true = not-false (next_at control (rows_of net) producers places r.0) r.2 in
+        let r : (i : ℕ) × (i < net.size) × (passed_at control net producers places i ≡ false) =
+        fails_at (passed_at control net producers places) net.size more in
+        let next : next_at control net producers places r.0 ≡ true = not-false (next_at control net producers places r.0) r.2 in
         rec (set blocks count r.0) (set places r.0 (count + 1))
-        (progress_step control (rows_of net) producers net.size count blocks places p (size-high net ok) r.0 r.1 next
-        (feeds_of net control (rows_of net) producers (rows_of_lem net) ok table r.0 r.1))
+        (progress_step control net producers count blocks places p (size-high net ok) r.0 r.1 next
+        (reads_of net control producers ok table r.0 r.1))
 
     place : (fuel count : ℕ) (blocks places : List ℕ) → net.size < count + fuel → Placed count blocks places → Found
     place zero count blocks places f p = absurd (omega (arith, p.total))
     place (suc fuel) count blocks places f p =
         place-next count blocks places p (λ bs ps q. place fuel (count + 1) bs ps (omega arith) q)
-        (which (all_below (passed_at control (rows_of net) producers places) net.size))
+        (which (all_below (passed_at control net producers places) net.size))
 
     pub order-or-loop : Found
-    order-or-loop = place (net.size + 1) 0 (replicate 64 0) (replicate 64 0) (omega arith) (progress_start control (rows_of net) producers net.size (size-high net ok))
+    order-or-loop = place (net.size + 1) 0 (replicate 64 0) (replicate 64 0) (omega arith) (progress_start control net producers (size-high net ok))
 
 pub order_exists : (net : Net) → fields_ok net ≡ true → connected net ≡ true → (control : Bool) → (FreeLoop net control → ⊥) → (order : List ℕ) × InOrder net control order
 order_exists net ok joins control none = go (order-or-loop net ok joins control)

@@ -15,7 +15,7 @@ use Rattle.nets.specs.Block.{ins, outs, on_side}
 use Rattle.nets.specs.Net.{block_at, fields_ok, names_at, seek, place_of, port_count, joined, connected}
 use Rattle.nets.specs.Loops.{HasPort}
 use Rattle.nets.specs.Promises.{TheBlock}
-use Rattle.nets.specs.declared.Net.{Net}
+use Rattle.blocks.specs.declared.Net.{Net}
 use Rattle.nets.proofs.Blocks.{ports_ten, ins-small, input_side, output_side, used_small, port-small}
 use Rattle.nets.proofs.Nets.{block_in}
 use Rattle.nets.proofs.Wirings.{port_of_lem, one_block}

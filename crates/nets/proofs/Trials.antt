@@ -15,10 +15,9 @@ use Rattle.nets.specs.Block.{ins, outs, on_side, ports_ok, block_ok}
 use Rattle.blocks.specs.Folds.{all_below, count_below}
 use Rattle.nets.specs.Net.{block_at, block_zero, fields_ok, kind_count, port_count, connected, place_of}
 use Rattle.nets.specs.Loops.{FreeLoop, is_buffer}
-use Rattle.nets.specs.Verdict.{Joined, VerdictIs}
-use Rattle.nets.specs.declared.Block.{Block}
-use Rattle.nets.specs.declared.Net.{Net}
-use Rattle.nets.specs.declared.Verdict.TheVariants.{Accepted, DataLoop, ControlLoop}
+use Rattle.nets.specs.Verdict.{Joined, VerdictIs, Accepted, DataLoop, ControlLoop}
+use Rattle.blocks.specs.declared.Block.{Block}
+use Rattle.blocks.specs.declared.Net.{Net}
 use Rattle.nets.proofs.Accepting.{rises, acceptable, accepted_test}
 use Rattle.nets.proofs.FreeLoops.{LeadsFree, by_ends, by_blocks}
 use Rattle.blocks.proofs.Folds.{clash, and_1, and_2}

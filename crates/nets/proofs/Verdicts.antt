@@ -1,10 +1,8 @@
 -- A net has one verdict: of two different ones the earlier fails a check that the later passes.
 -- Assumes nothing.
 use mathlib.Core.Path.{◌≡◌, refl}
-use Rattle.nets.specs.Verdict.{VerdictIs}
-use Rattle.nets.specs.declared.Net.{Net}
-use Rattle.nets.specs.declared.Verdict.{Verdict}
-use Rattle.nets.specs.declared.Verdict.TheVariants.{Accepted, Field, Connection, Ends, DataLoop, ControlLoop}
+use Rattle.nets.specs.Verdict.{VerdictIs, Verdict, Accepted, Field, Connection, Ends, DataLoop, ControlLoop}
+use Rattle.blocks.specs.declared.Net.{Net}
 use Rattle.blocks.proofs.Folds.{clash}
 
 pub verdict_unique : (net : Net) (v w : Verdict) → VerdictIs net v → VerdictIs net w → v ≡ w

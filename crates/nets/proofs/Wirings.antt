@@ -3,24 +3,21 @@
 use mathlib.Core.Path.{◌≡◌, sym, ◌∙◌, subst, ap}
 use mathlib.Core.Bool.{Bool, true, false}
 use mathlib.Core.List.{List}
-use mathlib.Core.Logic.{◌⊎◌, inl, inr}
 use Prim.Native.Nat.{ℕ, ◌+◌, ◌*◌, ◌/◌, ◌%◌, ◌≤◌, ◌<◌}
 use native.Mathlib.Omega.{arith}
+use Rattle.std.specs.Prelude.{Some, None}
 use lib.Dec.{eqb}
 use lib.ListN.{get_or}
-use borrow.Author.Tests.{eq-eqb, ne_eqb, eqb-true, eqb-false, not-true}
-use Rattle.blocks.specs.Folds.{count_below}
-use Rattle.blocks.proofs.Folds.{and_1, and_2, and_both, and_false_1, and_false_2, all_at, all_in, all_fails, count_one, count-some}
+use borrow.Author.Tests.{eq-eqb, ne_eqb, eqb-true, eqb-false, not-true, not-false}
+use Rattle.blocks.specs.Folds.{all_below, count_below}
+use Rattle.blocks.proofs.Folds.{and_1, and_2, and_both, and_false_1, and_false_2, all_at, all_in, all_fails, fails_at, count_le, count_one, count-some}
 use Rattle.nets.specs.Block.{on_side}
 use Rattle.nets.specs.Net.{block_at, port_at, names_at, port_count, joined, connected, fields_ok}
 use Rattle.nets.specs.Loops.{HasPort}
-use Rattle.nets.specs.Promises.{Table}
-use Rattle.nets.specs.Rows.{Rows}
-use Rattle.nets.specs.Ends.{row_names, Entry, vacant, held, held_at, EndsAre}
-use Rattle.nets.specs.declared.Net.{Net}
+use Rattle.nets.specs.Ends.{Entry, vacant, held, Entries, Filled, held_at, EndsAre}
+use Rattle.blocks.specs.declared.Net.{Net}
 use Rattle.nets.proofs.Blocks.{port-small}
-use Rattle.nets.proofs.Nets.{channels-high, block_in}
-use Rattle.nets.proofs.Rows.{names_same, count-names}
+use Rattle.nets.proofs.Nets.{size-high, channels-high, block_in}
 
 -- ## Ports and places
 
@@ -77,44 +74,53 @@ module _ (net : Net) where
 
 -- ## The tables of the ends
 
-module _ (net : Net) (rows : List ℕ) (all : Rows net rows) (ok : fields_ok net ≡ true) (side : Bool) where
-  held_entry : (c v : ℕ) → (v ≡ 255 → ⊥) → Entry rows side c (net.size * 10) v → (port_count net side c ≡ 1) × HasPort net side c v
+vacant_entry : (net : Net) (side : Bool) (c q v : ℕ) → q ≤ 640 → v ≡ 255 → Entry net side c q v → count_below (names_at net side c) q ≡ 0
+vacant_entry net side c q v b u (vacant e z) = z
+vacant_entry net side c q v b u (held p h t e o) = absurd (never e)
+  where
+    never : v ≡ p / 10 → ⊥
+    never e = omega arith
+
+module _ (net : Net) (ok : fields_ok net ≡ true) (side : Bool) where
+  held_entry : (c v : ℕ) → (v ≡ 255 → ⊥) → Entry net side c (net.size * 10) v → (port_count net side c ≡ 1) × HasPort net side c v
+  unfolding port_count
   held_entry c v n (vacant e z) = absurd (n e)
-  held_entry c v n (held p h t e o) = (
-    sym (count-names net rows all side c) ∙ o,
-    subst (λ (k : ℕ). HasPort net side c k) (sym e) (port_of_lem net side c p h (sym (names_same net rows all side c p h) ∙ t)),
-  )
+  held_entry c v n (held p h t e o) = (o, subst (λ (k : ℕ). HasPort net side c k) (sym e) (port_of_lem net side c p h t))
 
-  module _ (answer : Bool) (table : List ℕ) (are : EndsAre rows side net.size net.channels answer table) where
-    held_at_lem : answer ≡ true → (c : ℕ) → c < net.channels → (port_count net side c ≡ 1) × HasPort net side c (get_or table c 0)
-    held_at_lem t c h =
+  -- the block at which the filling stopped has a port for a channel that another port names
+  pub ends-clash : (i : ℕ) (answer : Bool) (table : List ℕ) → i < net.size → answer ≡ false → Filled net side i answer table → EndsAre net side None
+  unfolding port_count
+  ends-clash i answer table h f r =
+      let d = r.double f in
+      let more : 2 ≤ count_below (names_at net side d.0) (net.size * 10) = omega (arith, d.1, count_le (names_at net side d.0) (i * 10 + 10) (net.size * 10) (omega arith)) in
+      let q : (q : ℕ) × (q < net.size * 10) × (names_at net side d.0 q ≡ true) = count-some (names_at net side d.0) (net.size * 10) (omega arith) in
+      let p : HasPort net side d.0 (q.0 / 10) = port_of_lem net side d.0 q.0 q.1 q.2 in
+      let low : d.0 < net.channels =
+      subst (λ (x : ℕ). x < net.channels) {x = get_or (block_at net (q.0 / 10)).ports p.port 0} p.names (port-small (block_at net (q.0 / 10)) p.port net.channels side (block_in net ok (q.0 / 10) p.in_net) p.on_side_lem) in
+      unjoined net side d.0 low (λ e. omega (arith, more))
+
+  pub filled_next : (i : ℕ) (answer : Bool) (table : List ℕ) → answer ≡ true → Filled net side i answer table → Entries net side table ((i + 1) * 10)
+  filled_next i answer table t r = subst (λ (q : ℕ). Entries net side table q) (omega arith) (r.whole t)
+
+  -- all blocks are entered
+  module _ (table : List ℕ) (es : Entries net side table (net.size * 10)) where
+    has_one : all_below (held_at table) net.channels ≡ true → (c : ℕ) → c < net.channels → (port_count net side c ≡ 1) × HasPort net side c (get_or table c 0)
+    has_one all c h =
         held_entry c (get_or table c 0)
-        (eqb-false (get_or table c 0) 255 (not-true (eqb (get_or table c 0) 255) (all_at (held_at table) net.channels (are.all_held t) c h)))
-        (are.whole t c (omega (arith, channels-high net ok)))
+        (eqb-false (get_or table c 0) 255 (not-true (eqb (get_or table c 0) 255) (all_at (held_at table) net.channels all c h)))
+        (es c (omega (arith, channels-high net ok)))
 
-    pub count_at : answer ≡ true → (c : ℕ) → c < net.channels → port_count net side c ≡ 1
-    count_at t c h = (held_at_lem t c h).0
+    pub ends-whole : all_below (held_at table) net.channels ≡ true → EndsAre net side (Some table)
+    ends-whole all = (
+      λ c h. record { has = (has_one all c h).1; only = λ a p. one_block net side c a (get_or table c 0) (has_one all c h).0 p (has_one all c h).1 },
+      λ c h. (has_one all c h).0,
+    )
 
-    pub table_of : answer ≡ true → Table net side table
-    table_of t c h =
-        record {
-          has = (held_at_lem t c h).1;
-          only = λ a p. one_block net side c a (get_or table c 0) (held_at_lem t c h).0 p (held_at_lem t c h).1;
-        }
-
-    -- a channel that a place names is below the count
-    named-low : (c q : ℕ) → q < net.size * 10 → row_names rows side c q ≡ true → c < net.channels
-    named-low c q h t =
-        let p : HasPort net side c (q / 10) = port_of_lem net side c q h (sym (names_same net rows all side c q h) ∙ t) in
-        subst (λ (x : ℕ). x < net.channels) p.names (port-small (block_at net (q / 10)) p.port net.channels side (block_in net ok (q / 10) p.in_net) p.on_side_lem)
-
-    pub not-joined : answer ≡ false → connected net ≡ false
-    not-joined f = go (are.fails f)
-      where
-        go : ((c : ℕ) × (2 ≤ count_below (row_names rows side c) (net.size * 10)))
-            ⊎ ((c : ℕ) × (c < net.channels) × (count_below (row_names rows side c) (net.size * 10) ≡ 0)) → connected net ≡ false
-        go (inl d) =
-            let q : (q : ℕ) × (q < net.size * 10) × (row_names rows side d.0 q ≡ true) =
-            count-some (row_names rows side d.0) (net.size * 10) (omega (arith, d.1)) in
-            unjoined net side d.0 (named-low d.0 q.0 q.1 q.2) (λ e. omega (arith, d.1, count-names net rows all side d.0))
-        go (inr d) = unjoined net side d.0 d.1 (λ e. omega (arith, d.2, count-names net rows all side d.0))
+    pub ends-vacant : all_below (held_at table) net.channels ≡ false → EndsAre net side None
+    unfolding port_count
+    ends-vacant f =
+        let x : (c : ℕ) × (c < net.channels) × (held_at table c ≡ false) = fails_at (held_at table) net.channels f in
+        let z : count_below (names_at net side x.0) (net.size * 10) ≡ 0 =
+        vacant_entry net side x.0 (net.size * 10) (get_or table x.0 0) (omega (arith, size-high net ok))
+        (eqb-true (get_or table x.0 0) 255 (not-false (eqb (get_or table x.0 0) 255) x.2)) (es x.0 (omega (arith, x.1, channels-high net ok))) in
+        unjoined net side x.0 x.1 (λ e. omega (arith, z))

@@ -3,7 +3,7 @@
 use Rattle.std.specs.Prelude.{Bool, true, false, cond, ◌&&◌, ◌||◌, List, [], ℕ, ◌+◌, leb, ltb, eqb, get_or}
 use Rattle.blocks.specs.Folds.{all_below}
 use Rattle.blocks.specs.Ports.{m_ok, ports_of, input_count, output_count, has_value}
-use Rattle.nets.specs.declared.Block.{Block}
+use Rattle.blocks.specs.declared.Block.{Block}
 
 -- what an array of blocks has beyond its end, as antt reads one: no block of a net
 abbrev pub no_block : Block

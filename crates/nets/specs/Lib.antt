@@ -6,6 +6,5 @@ pub mod Verdict
 -- What the check promises to stepping.
 pub mod Promises
 -- Working definitions of private contracts.
-pub mod Rows
 pub mod Ends
 pub mod Order

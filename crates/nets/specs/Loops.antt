@@ -4,7 +4,7 @@ use Rattle.std.specs.Prelude.{◌≡◌, Bool, true, false, cond, ◌||◌, ℕ,
 use Rattle.loops.specs.Walk.{LoopOf}
 use Rattle.nets.specs.Block.{on_side}
 use Rattle.nets.specs.Net.{block_at}
-use Rattle.nets.specs.declared.Net.{Net}
+use Rattle.blocks.specs.declared.Net.{Net}
 
 -- block a of the net has an output port (side true) or an input port (side false) that names channel c
 pub record HasPort (net : Net) (side : Bool) (c a : ℕ) : Type 0 where

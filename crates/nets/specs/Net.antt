@@ -3,8 +3,8 @@
 use Rattle.std.specs.Prelude.{Bool, true, false, cond, ◌&&◌, ℕ, suc, zero, ◌*◌, ◌/◌, ◌%◌, leb, ltb, eqb, get_or}
 use Rattle.blocks.specs.Folds.{all_below, count_below}
 use Rattle.nets.specs.Block.{no_block, ports_ok, block_ok, on_side}
-use Rattle.nets.specs.declared.Block.{Block}
-use Rattle.nets.specs.declared.Net.{Net}
+use Rattle.blocks.specs.declared.Block.{Block}
+use Rattle.blocks.specs.declared.Net.{Net}
 
 abbrev pub block_at : Net → ℕ → Block
 block_at net i = get_or net.blocks i no_block

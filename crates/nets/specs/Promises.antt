@@ -1,12 +1,32 @@
 -- What the check of a net promises to whoever steps it: all that stepping knows of what the check's code does.
 -- Assumes nothing.
-use Rattle.std.specs.Prelude.{◌≡◌, Bool, true, false, cond, List, ℕ, ◌<◌, get_or}
+use Rattle.std.specs.Prelude.{◌≡◌, Bool, true, false, cond, List, Result, Ok, Err, ℕ, ◌<◌, get_or}
 use Rattle.nets.specs.Net.{block_at, fields_ok, connected, few_ends}
 use Rattle.nets.specs.Loops.{HasPort, Leads, is_buffer}
-use Rattle.nets.specs.Verdict.{VerdictIs}
-use Rattle.nets.specs.declared.Net.{Net}
+use Rattle.nets.specs.Verdict.{Verdict, VerdictIs}
+use Rattle.nets.specs.Verdict as verdict
+use Rattle.blocks.specs.declared.Net.{Net}
+use Rattle.blocks.specs.declared.Refusal.{Refusal}
+use Rattle.blocks.specs.declared.Refusal.TheVariants as refusal
 use Rattle.nets.specs.declared.Plan.{Plan}
-use Rattle.nets.specs.declared.Verdict.TheVariants.{Accepted}
+use Rattle.nets.specs.declared.Fault.{Fault}
+use Rattle.nets.specs.declared.Fault.TheVariants.{Field, Connection, Ends, DataLoop, ControlLoop}
+
+-- the verdict that a fault earns the net
+abbrev pub earned : Fault → Verdict
+earned Field = verdict.Field
+earned Connection = verdict.Connection
+earned Ends = verdict.Ends
+earned DataLoop = verdict.DataLoop
+earned ControlLoop = verdict.ControlLoop
+
+-- and the refusal
+abbrev pub refusal_of : Fault → Refusal
+refusal_of Field = refusal.Net
+refusal_of Connection = refusal.Connection
+refusal_of Ends = refusal.Ends
+refusal_of DataLoop = refusal.DataLoop
+refusal_of ControlLoop = refusal.ControlLoop
 
 -- v is the one block with a port of this side for channel c
 pub record TheBlock (net : Net) (side : Bool) (c v : ℕ) : Type 0 where
@@ -41,6 +61,6 @@ pub record Promises (net : Net) (p : Plan) : Type 0 where
   pub control_order : InOrder net true p.control
 
 -- the contract of `plan_of`: the verdict is the net's, and where it is accepted the promises hold
-pub record Planned (net : Net) (p : Plan) : Type 0 where
-  pub right : VerdictIs net p.verdict
-  pub ready : p.verdict ≡ Accepted → Promises net p
+abbrev pub Planned : Net → Result Plan Fault → Type 0
+Planned net (Ok p) = VerdictIs net verdict.Accepted × Promises net p
+Planned net (Err f) = VerdictIs net (earned f)

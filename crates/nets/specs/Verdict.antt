@@ -3,9 +3,16 @@
 use Rattle.std.specs.Prelude.{◌≡◌, true, false, ℕ}
 use Rattle.nets.specs.Net.{fields_ok, connected, few_ends}
 use Rattle.nets.specs.Loops.{FreeLoop}
-use Rattle.nets.specs.declared.Net.{Net}
-use Rattle.nets.specs.declared.Verdict.{Verdict}
-use Rattle.nets.specs.declared.Verdict.TheVariants.{Accepted, Field, Connection, Ends, DataLoop, ControlLoop}
+use Rattle.blocks.specs.declared.Net.{Net}
+
+-- what the check of a net finds
+pub data Verdict : Type 0 where
+  Accepted : Verdict
+  Field : Verdict
+  Connection : Verdict
+  Ends : Verdict
+  DataLoop : Verdict
+  ControlLoop : Verdict
 
 -- the document's number of each refusal
 abbrev pub number_of : Verdict → ℕ

@@ -1,33 +1,29 @@
-// The fields of a net value, and the copy of its blocks that the later checks read: a row of thirteen numbers for each block, its kind, how many
-// inputs and how many ports it has, and the channels of its ports.
-ghost use Rattle.std.specs.Prelude.{◌≡◌, true, false, ◌&&◌, ℕ, ◌≤◌, ◌<◌, leb, length};
+// The fields of a net value.
+ghost use Rattle.std.specs.Prelude.{◌≡◌, ◌≤◌, eqb, get_or};
 ghost use Rattle.blocks.specs.Folds.{count_below};
-ghost use Rattle.nets.specs.Block.{port_ok, ports_ok, value_ok, block_ok, ins, outs};
-ghost use Rattle.nets.specs.Net.{block_zero, entry_ok, sizes_ok, fields_ok};
-ghost use Rattle.nets.specs.Rows.{row_is_kind, Row, RowOf, Wrote, ReadAs, ReadNet};
+ghost use Rattle.blocks.specs.Numbers.{kind_number};
+ghost use Rattle.nets.specs.Block.{no_block, port_ok, ports_ok, value_ok, block_ok, ins, outs};
+ghost use Rattle.nets.specs.Ends.{CountsOf};
+ghost use Rattle.nets.specs.Net.{block_zero, entry_ok, sizes_ok, fields_ok, kind_count, few_ends};
 
 use crate::{Block, Net};
-use blocks::{Ports, kinds};
+use blocks::{Kind, Ports, kinds};
 
-// A used port names a channel below the count; an unused one is 0, the only number below 1.
+// A used port names a channel below the count; an unused one is 0.
 fn port_ok(port: u8, used: bool, channels: u8) -> bool
     ensures { result ≡ port_ok port used channels }
 {
-    let limit = kinds::either(used, channels, 1);
-    port < limit
+    if used { port < channels } else { port == 0 }
 }
 
 // The first n ports name channels, and the rest are 0.
-fn ports_ok(ports: [u8; 10], n: u8, channels: u8) -> bool
-    ensures { result ≡ ports_ok ports n channels }
+fn ports_ok(ports: &[u8; 10], n: usize, channels: u8) -> bool
+    ensures { result ≡ ports_ok ports.now n channels }
 {
-    let used = n as usize;
-    let mut i: usize = 0;
-    while i < 10 {
-        if !port_ok(ports[i], i < used, channels) {
+    for (i, port) in ports.iter().enumerate() {
+        if !port_ok(*port, i < n, channels) {
             return false;
         }
-        i += 1;
     }
     true
 }
@@ -36,147 +32,116 @@ fn ports_ok(ports: [u8; 10], n: u8, channels: u8) -> bool
 fn value_ok(kind: u8, value: u32) -> bool
     ensures { result ≡ value_ok kind value }
 {
-    if kinds::has_value(kind) {
-        return true;
-    }
-    value == 0
+    kinds::has_value(kind) || value == 0
 }
 
 // Every field of the block is 0.
+// stays: == of the derive, with the clause that `entry_ok` needs.
 fn block_zero(b: Block) -> bool
     ensures { result ≡ block_zero b }
 {
-    if b.kind != 0 {
-        return false;
-    }
-    if b.m != 0 {
-        return false;
-    }
-    if b.value != 0 {
-        return false;
-    }
-    let ports = b.ports;
-    ports_ok(ports, 0, 0)
+    b == Block::ZERO
 }
 
 // The net's two counts are in their ranges.
 fn sizes_ok(size: u8, channels: u8) -> bool
     ensures { result ≡ sizes_ok size channels }
 {
-    if size < 2 {
-        return false;
-    }
-    if 64 < size {
-        return false;
-    }
-    if channels < 1 {
-        return false;
-    }
-    channels <= 128
+    2 <= size && size <= 64 && 1 <= channels && channels <= 128
 }
 
-// Writes row i.
-fn write_row(i: usize, kind: u8, inputs: u8, all: u8, ports: [u8; 10], rows: &mut [u8; 832])
-    requires i_bound { i < 64 }
-    requires rows_len { length rows.old ≡ 832 }
-    ensures wrote { Wrote i rows.old rows.new }
-    ensures row { Row rows.new i kind inputs all ports }
+// How many input and output ports a block has; none where its kind or its m is not in use.
+pub fn counts(b: &Block) -> Ports
+    ensures inputs { result.inputs ≡ ins b.now }
+    ensures outputs { result.outputs ≡ outs b.now }
 {
-    let base = i * 13;
-    rows[base] = kind;
-    rows[base + 1] = inputs;
-    rows[base + 2] = all;
-    let mut j: usize = 0;
-    while j < 10 {
-        rows[base + 3 + j] = ports[j];
-        j += 1;
-    }
+    let none = Ports {
+        inputs: 0,
+        outputs: 0,
+    };
+    kinds::ports_of(b.kind, b.m).unwrap_or(none)
 }
 
-// Whether every field of block i is in its range; where it is, its row is written.
-fn read_block(b: Block, i: usize, channels: u8, rows: &mut [u8; 832]) -> bool
-    requires i_bound { i < 64 }
-    requires rows_len { length rows.old ≡ 832 }
-    ensures { ReadAs (block_ok b channels) true result b i rows.old rows.new }
+// How many ports each block of a net has: counted once, since the checks come to a block again and again.
+pub fn counts_of(net: &Net) -> [Ports; 64]
+    requires { net.now.size ≤ 64 }
+    ensures { CountsOf net.now result }
 {
-    let p = kinds::ports_of(b.kind, b.m);
-    match p {
-        Ports::Unused => false,
-        Ports::Count(inputs, outputs) => {
-            if !value_ok(b.kind, b.value) {
-                return false;
-            }
-            let all = inputs + outputs;
-            let ports = b.ports;
-            if !ports_ok(ports, all, channels) {
-                return false;
-            }
-            write_row(i, b.kind, inputs, all, ports, rows);
-            true
-        }
+    let none = Ports {
+        inputs: 0,
+        outputs: 0,
+    };
+    let mut all = [none; 64];
+    for b in 0..net.size as usize {
+        all[b] = counts(&net.blocks[b]);
     }
+    all
 }
 
-// Entry i of a net's blocks: a block in its ranges, whose row is then written, or one beyond the net's blocks, which is 0.
-fn read_entry(b: Block, used: bool, i: usize, channels: u8, rows: &mut [u8; 832]) -> bool
-    requires i_bound { i < 64 }
-    requires rows_len { length rows.old ≡ 832 }
-    ensures { ReadAs (entry_ok b used channels) used result b i rows.old rows.new }
+// Every field of the block is in its range.
+fn block_ok(b: &Block, channels: u8) -> bool
+    ensures { result ≡ block_ok b.now channels }
+{
+    let Some(p) = kinds::ports_of(b.kind, b.m) else {
+        return false;
+    };
+    value_ok(b.kind, b.value) && ports_ok(&b.ports, (p.inputs + p.outputs) as usize, channels)
+}
+
+// Entry i of a net's blocks: a block in its ranges, or one beyond the net's blocks, which is 0.
+fn entry_ok(b: &Block, used: bool, channels: u8) -> bool
+    ensures { result ≡ entry_ok b.now used channels }
 {
     if used {
-        read_block(b, i, channels, rows)
+        block_ok(b, channels)
     } else {
-        block_zero(b)
+        block_zero(*b)
     }
 }
 
-// Whether every field of the net is in its range, and every unused entry 0; then rows has a row for each block.
-pub fn read_net(net: Net, rows: &mut [u8; 832]) -> bool
-    requires { length rows.old ≡ 832 }
-    ensures { ReadNet net result rows.new }
+// Whether every field of the net is in its range, and every unused entry 0.
+pub fn fields_ok(net: &Net) -> bool
+    ensures { result ≡ fields_ok net.now }
 {
     if !sizes_ok(net.size, net.channels) {
         return false;
     }
     let size = net.size as usize;
-    let channels = net.channels;
-    let mut i: usize = 0;
-    while i < 64 {
-        let b = net.blocks[i];
-        if !read_entry(b, i < size, i, channels, rows) {
+    for (i, b) in net.blocks.iter().enumerate() {
+        if !entry_ok(b, i < size, net.channels) {
             return false;
         }
-        i += 1;
     }
     true
 }
 
-// How many rows below size are of this kind.
-fn kind_count(kind: u8, size: usize, rows: &[u8; 832]) -> usize
+// How many of the first size blocks are of this kind.
+fn count_kind(kind: Kind, size: usize, blocks: &[Block; 64]) -> usize
     requires { size ≤ 64 }
-    ensures { result ≡ count_below (row_is_kind rows.now kind) size }
+    ensures { result ≡ count_below (λ i. eqb (get_or blocks.now i no_block).kind (kind_number kind)) size }
 {
-    let mut n: usize = 0;
-    let mut i: usize = 0;
-    while i < size {
-        if rows[i * 13] == kind {
-            n += 1;
-        }
-        i += 1;
-    }
-    n
+    let number = kind as u8;
+    blocks[..size].iter().filter(|b| b.kind == number).count()
 }
 
-// The most sources that a net has.
+// How many blocks of the net are of this kind.
+#[tactic(auto, unfolding(crate::specs::Net::kind_count))]
+pub fn kind_count(kind: Kind, net: &Net) -> usize
+    requires { net.now.size ≤ 64 }
+    ensures { result ≡ kind_count net.now (kind_number kind) }
+{
+    count_kind(kind, net.size as usize, &net.blocks)
+}
+
+// The most sources that a net has, and the most sinks.
 const MOST_SOURCES: usize = 32;
 
+const MOST_SINKS: usize = 32;
+
 // There are at most 32 sources and 32 sinks.
-pub fn few_ends(size: usize, rows: &[u8; 832]) -> bool
-    requires { size ≤ 64 }
-    ensures { result ≡ (leb (count_below (row_is_kind rows.now 0) size) 32 && leb (count_below (row_is_kind rows.now 1) size) 32) }
+pub fn few_ends(net: &Net) -> bool
+    requires { net.now.size ≤ 64 }
+    ensures { result ≡ few_ends net.now }
 {
-    if MOST_SOURCES < kind_count(0, size, rows) {
-        return false;
-    }
-    kind_count(1, size, rows) <= 32
+    kind_count(Kind::Source, net) <= MOST_SOURCES && kind_count(Kind::Sink, net) <= MOST_SINKS
 }

@@ -1,46 +1,44 @@
-// The blocks at the ends of the channels, found by reading the rows port by port.
-ghost use Rattle.std.specs.Prelude.{◌≡◌, cond, ℕ, ◌*◌, ◌≤◌, ◌<◌, length};
+// The blocks at the ends of the channels, found by reading the blocks port by port.
+ghost use Rattle.std.specs.Prelude.{◌≡◌, true, cond, ◌+◌, ◌*◌, ◌≤◌, ◌<◌};
 ghost use Rattle.blocks.specs.Folds.{all_below};
-ghost use Rattle.nets.specs.Rows.{Sound};
-ghost use Rattle.nets.specs.Ends.{Entries, Filled, held_at, EndsAre};
+ghost use Rattle.nets.specs.Net.{fields_ok};
+ghost use Rattle.nets.specs.Ends.{CountsOf, Entries, Filled, held_at, EndsAre};
 
-use crate::Ends;
+use crate::Net;
+use blocks::Ports;
 
-// The first port on a side, outputs (side true) or inputs, of a block with this many inputs.
-fn first_port(side: bool, inputs: usize) -> usize
-    ensures { result ≡ cond side inputs 0 }
+// The number of no block.
+const NONE: u8 = 255;
+
+// The ports on a side of a block with these counts, outputs (side true) or inputs: the first one, and the first one beyond them.
+fn ports_on(side: bool, counts: Ports) -> (usize, usize)
+    ensures first { result.0 ≡ cond side counts.inputs 0 }
+    ensures last { result.1 ≡ cond side (counts.inputs + counts.outputs) counts.inputs }
 {
-    if side { inputs } else { 0 }
+    let inputs = counts.inputs as usize;
+    if side {
+        (inputs, inputs + counts.outputs as usize)
+    } else {
+        (0, inputs)
+    }
 }
 
-// The first port beyond a side of a block with this many inputs, and this many ports in all.
-fn last_port(side: bool, inputs: usize, all: usize) -> usize
-    ensures { result ≡ cond side all inputs }
+// Enters block i at the channels of its ports on a side; false where a channel has a block already.
+fn fill_block(side: bool, i: usize, net: &Net, counts: &[Ports; 64], table: &mut [u8; 128]) -> bool
+    requires fields { fields_ok net.now ≡ true }
+    requires counted { CountsOf net.now counts.now }
+    requires i_bound { i < net.now.size }
+    requires entries { Entries net.now side table.old (i * 10) }
+    ensures { Filled net.now side i result table.new }
 {
-    if side { all } else { inputs }
-}
-
-// Enters block i at the channels of its ports on a side. 255 is no block; false where a channel has a block already.
-fn fill_block(side: bool, i: usize, rows: &[u8; 832], table: &mut [u8; 128]) -> bool
-    requires i_bound { i < 64 }
-    requires sound { Sound rows.now i }
-    requires table_len { length table.old ≡ 128 }
-    requires entries { Entries rows.now side table.old (i * 10) }
-    ensures table_len_2 { length table.new ≡ 128 }
-    ensures filled { Filled rows.now side i result table.new }
-{
-    let base = i * 13;
-    let inputs = rows[base + 1] as usize;
-    let all = rows[base + 2] as usize;
-    let last = last_port(side, inputs, all);
-    let mut j = first_port(side, inputs);
-    while j < last {
-        let c = rows[base + 3 + j] as usize;
-        if table[c] != 255 {
+    let block = &net.blocks[i];
+    let (first, last) = ports_on(side, counts[i]);
+    for j in first..last {
+        let c = block.ports[j] as usize;
+        if table[c] != NONE {
             return false;
         }
         table[c] = i as u8;
-        j += 1;
     }
     true
 }
@@ -50,36 +48,24 @@ fn all_held(table: &[u8; 128], channels: usize) -> bool
     requires { channels ≤ 128 }
     ensures { result ≡ all_below (held_at table.now) channels }
 {
-    let mut c: usize = 0;
-    while c < channels {
-        if table[c] == 255 {
-            return false;
-        }
-        c += 1;
-    }
-    true
+    table[..channels].iter().all(|a| *a != NONE)
 }
 
-// The block that each channel leaves (side true) or enters, and whether every channel has one such port.
-pub fn ends_of(side: bool, size: usize, channels: usize, rows: &[u8; 832]) -> Ends
-    requires size_bound { size ≤ 64 }
-    requires channels_bound { channels ≤ 128 }
-    requires by_index { (i : ℕ) → i < size → Sound rows.now i }
-    ensures { EndsAre rows.now side size channels result.ok result.blocks }
+// The block that each channel leaves (side true) or enters, where every channel has one such port.
+pub fn ends_of(side: bool, net: &Net, counts: &[Ports; 64]) -> Option<[u8; 128]>
+    requires fields { fields_ok net.now ≡ true }
+    requires counted { CountsOf net.now counts.now }
+    ensures { EndsAre net.now side result }
 {
-    let mut table = [255u8; 128];
-    let mut i: usize = 0;
-    while i < size {
-        if !fill_block(side, i, rows, &mut table) {
-            return Ends {
-                ok: false,
-                blocks: table,
-            };
+    let mut table = [NONE; 128];
+    for i in 0..net.size as usize {
+        if !fill_block(side, i, net, counts, &mut table) {
+            return None;
         }
-        i += 1;
     }
-    Ends {
-        ok: all_held(&table, channels),
-        blocks: table,
+    if all_held(&table, net.channels as usize) {
+        Some(table)
+    } else {
+        None
     }
 }

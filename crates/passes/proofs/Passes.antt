@@ -2,7 +2,8 @@
 -- Assumes nothing.
 use mathlib.Core.Path.{◌≡◌, sym, ap, subst, ◌∙◌}
 use mathlib.Core.Logic.{◌⊎◌, inl, inr}
-use Prim.Native.Nat.{ℕ, ◌+◌, ◌<◌}
+use Prim.Native.Nat.{ℕ, suc, ◌+◌, ◌<◌}
+use native.Mathlib.Numerals.{add-one}
 use native.Mathlib.Decide.{ℕ_discrete}
 use native.Mathlib.Omega.{arith}
 use Rattle.ports.specs.Places.{Put}
@@ -71,3 +72,12 @@ module _ {A : Type 0} (site : ℕ → Site A) (n : ℕ) (Done Mine : ℕ → Typ
     where
       never : turn.place b < 0 → ⊥
       never z = omega arith
+
+-- the same where block b stands at turn i
+pub pass_next : {A : Type 0} (site : ℕ → Site A) (n : ℕ) (Done Mine : ℕ → Type 0) (count : ℕ) (at : ℕ → ℕ) (P : Pass site n Done Mine count at) (f g : ℕ → A) (i b : ℕ) → i < count
+    → at i ≡ b → Going site n Done Mine P.turn.place i f → Put (site b).to ((site b).says (λ p. f ((site b).from p))) (site b).puts f g
+    → Going site n Done Mine P.turn.place (suc i) g
+pass_next site n Done Mine count at P f g i b li e going p =
+    subst (λ (k : ℕ). Going site n Done Mine P.turn.place k g) (add-one i)
+    (pass_more site n Done Mine count at P f g i li going
+    (subst (λ (x : ℕ). Put (site x).to ((site x).says (λ p. f ((site x).from p))) (site x).puts f g) (sym e) p))

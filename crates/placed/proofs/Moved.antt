@@ -5,21 +5,22 @@ use mathlib.Core.Path.{◌≡◌, refl, sym, ap, ◌∙◌, subst}
 use mathlib.Core.Bool.{Bool, true, false, cond, ◌&&◌}
 use mathlib.Core.Logic.{◌≢◌, ◌⊎◌, inl, inr}
 use native.Mathlib.Omega.{arith}
-use borrow.Author.Tests.{eqb-true, eqb-false, eq-eqb, ne_eqb, ltb-true, ltb-false, lt-ltb, le-ltb, not-true}
+use borrow.Author.Tests.{eqb-true, eqb-false, eq-eqb, ne_eqb, ltb-true, ltb-false, lt-ltb, le-ltb}
 use lib.Dec.{eqb, ltb}
 use lib.ListN.{length, get_or, replicate, get_or-replicate}
 use Rattle.blocks.specs.Folds.{one, all_below, count_below}
 use Rattle.blocks.specs.Ports.{m_ok, ports_of}
-use Rattle.blocks.proofs.Folds.{and_1, and_2, and_both, all_at, all_in}
+use Rattle.blocks.proofs.Folds.{clash, and_1, and_2, and_both, all_at, all_in}
 use Rattle.blocks.proofs.Options.{test}
 use Rattle.nets.specs.Block.{ins, outs, on_side, port_ok, ports_ok, value_ok, block_ok}
 use Rattle.nets.specs.Net.{block_zero}
-use Rattle.nets.specs.declared.Block.{Block}
+use Rattle.blocks.specs.declared.Block.{Block}
 use Rattle.nets.proofs.Blocks.{input_side, used_small}
 use Rattle.cycles.specs.State.{tab}
 use Rattle.cycles.proofs.States.{get_d_tab, tab_is}
 use Rattle.placed.specs.Placed.{buffer_from, port_moved, input_moved}
-use Rattle.placed.specs.Ports.{port_elsewhere, free_of}
+use Rattle.std.specs.List.{list_any}
+use Rattle.std.proofs.lemmas.List.Folds.{list_any_at}
 
 -- ## A port that is moved from c to d
 
@@ -50,16 +51,16 @@ module _ (c d : ℕ) (b : Block) where
   moved_port j h = get_d_tab 10 (port_moved c d b) 0 j h
 
   -- no port is moved of a block that does not name the channel
-  pub same_port : free_of b.ports c ≡ true → (j : ℕ) → j < 10 → port_moved c d b j ≡ get_or b.ports j 0
-  unfolding free_of
-  same_port free j h =
-      let away : eqb (get_or b.ports j 0) c ≡ false = not-true (eqb (get_or b.ports j 0) c) (all_at (port_elsewhere b.ports c) 10 free j h) in
-      test (on_side false b j) (λ e. rw (e, away)) (λ e. rw e)
-
-  pub same_block : length b.ports ≡ 10 → free_of b.ports c ≡ true → b ≡ input_moved c d b
+  pub same_block : length b.ports ≡ 10 → list_any (λ p. eqb p c) b.ports ≡ false → b ≡ input_moved c d b
   same_block long free =
-      let ports = tab_is 10 (port_moved c d b) b.ports long (λ j h. sym (same_port free j h)) in
+      let ports = tab_is 10 (port_moved c d b) b.ports long (λ j h. sym (same j (omega arith))) in
       λ i. record { kind = b.kind; m = b.m; value = b.value; ports = ports i }
+    where
+      same : (j : ℕ) → j < length b.ports → port_moved c d b j ≡ get_or b.ports j 0
+      same j h =
+          let away : eqb (get_or b.ports j 0) c ≡ false =
+          test (eqb (get_or b.ports j 0) c) (λ e. clash (list_any_at (λ p. eqb p c) b.ports j 0 h e) free) (λ e. e) in
+          test (on_side false b j) (λ e. rw (e, away)) (λ e. rw e)
 
   -- an input port is moved, another is not
   pub at_input : (j : ℕ) → j < ins b → port_moved c d b j ≡ cond (eqb (get_or b.ports j 0) c) d (get_or b.ports j 0)

@@ -7,7 +7,7 @@ use mathlib.Core.List.{List, [], ◌∷◌}
 use native.Mathlib.Omega.{arith}
 use lib.ListN.{length}
 use Rattle.nets.specs.Verdict.{Joined}
-use Rattle.nets.specs.declared.Net.{Net}
+use Rattle.blocks.specs.declared.Net.{Net}
 use Rattle.placed.specs.Placed.{split, with_code, placed_from, buffers_of, added}
 use Rattle.placed.proofs.Moved.{Plain}
 use Rattle.placed.proofs.Splitting.{split-joined}

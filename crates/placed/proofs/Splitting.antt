@@ -14,8 +14,8 @@ use Rattle.blocks.proofs.Options.{test}
 use Rattle.nets.specs.Block.{no_block, on_side}
 use Rattle.nets.specs.Net.{block_at, block_zero, sizes_ok, entry_at, fields_ok, is_kind, kind_count, names_at, port_count, connected, few_ends}
 use Rattle.nets.specs.Verdict.{Joined}
-use Rattle.nets.specs.declared.Block.{Block}
-use Rattle.nets.specs.declared.Net.{Net}
+use Rattle.blocks.specs.declared.Block.{Block}
+use Rattle.blocks.specs.declared.Net.{Net}
 use Rattle.nets.proofs.Blocks.{port-small, side_input, side_output}
 use Rattle.nets.proofs.Nets.{block_in}
 use Rattle.nets.proofs.Places.{one_port}

@@ -6,10 +6,8 @@ use mathlib.Core.Logic.{◌⊎◌, inl, inr}
 use native.Mathlib.Omega.{arith}
 use lib.ListN.{replicate}
 use Rattle.blocks.proofs.Folds.{clash}
-use Rattle.nets.specs.Verdict.{number_of, Joined, VerdictIs}
-use Rattle.nets.specs.declared.Net.{Net}
-use Rattle.nets.specs.declared.Verdict.{Verdict}
-use Rattle.nets.specs.declared.Verdict.TheVariants.{Accepted, Field, Connection, Ends, DataLoop, ControlLoop}
+use Rattle.nets.specs.Verdict.{number_of, Joined, VerdictIs, Verdict, Accepted, Field, Connection, Ends, DataLoop, ControlLoop}
+use Rattle.blocks.specs.declared.Net.{Net}
 use Rattle.nets.proofs.Decided.{verdict_of, verdict_is}
 use Rattle.placed.specs.Placed.{placed, placed_from}
 use Rattle.placed.specs.Claims.{SizesAre, StaysJoined, OnlyLoopsLeft, NonePlaced}

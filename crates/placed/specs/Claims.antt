@@ -2,7 +2,7 @@
 -- Assumes nothing.
 use Rattle.std.specs.Prelude.{ℕ, ◌+◌, ◌≤◌, ◌≡◌, ◌⊎◌, List, length, replicate}
 use Rattle.nets.specs.Verdict.{number_of, Joined}
-use Rattle.nets.specs.declared.Net.{Net}
+use Rattle.blocks.specs.declared.Net.{Net}
 use Rattle.nets.proofs.Decided.{verdict_of}
 use Rattle.placed.specs.Placed.{placed, added}
 

@@ -2,5 +2,3 @@
 pub mod Placed
 -- What is claimed of it.
 pub mod Claims
--- A working definition: what a private function promises.
-pub mod Ports

@@ -4,8 +4,8 @@
 use Rattle.std.specs.Prelude.{ℕ, zero, suc, ◌+◌, false, cond, ◌&&◌, List, [], ◌∷◌, eqb, get_or, replicate}
 use Rattle.nets.specs.Block.{on_side}
 use Rattle.nets.specs.Net.{block_at}
-use Rattle.nets.specs.declared.Block.{Block}
-use Rattle.nets.specs.declared.Net.{Net}
+use Rattle.blocks.specs.declared.Block.{Block}
+use Rattle.blocks.specs.declared.Net.{Net}
 use Rattle.cycles.specs.State.{tab}
 
 -- a buffer that takes from channel a and puts on channel d

@@ -1,5 +1,4 @@
--- What was read, the answers by their tests, numbers in base 4, lists made longer by zeros, lines of digits.
-pub mod Reading
+-- The answers by their tests, numbers in base 4, lists made longer by zeros, lines of digits.
 pub mod Answering
 pub mod Digits
 pub mod Padding

@@ -15,19 +15,19 @@ use mathlib.Core.List.{
 use native.Mathlib.Nat.{mod-eq_of_lt}
 use native.Mathlib.Numerals.{add-one}
 use native.Mathlib.Omega.{arith}
-use borrow.Author.Tests.{eqb-true, eqb-false, eq-eqb, ne_eqb, leb-true, le-leb, lt-leb}
+use borrow.Author.Tests.{eqb-true, eqb-false, eq-eqb, leb-true, le-leb, lt-leb}
 use lib.Dec.{eqb, leb}
 use lib.ListN.{length, get_or, set, replicate, length-append, length-replicate, get_or-append}
 use lib.Seq.{get_or-append-add}
 use Rattle.blocks.specs.Folds.{all_below}
 use Rattle.blocks.proofs.Folds.{and_2, all_at}
 use Rattle.blocks.proofs.Options.{test}
-use Rattle.nets.specs.declared.Net.{Net}
+use Rattle.blocks.specs.declared.Net.{Net}
 use Rattle.nets.proofs.Decided.{verdict_of}
 use Rattle.stored.specs.Form.{padded, Outcome, loaded, denied, parse}
 use Rattle.stored.proofs.Many.{set-padded}
 use Rattle.placements.specs.Calls.{form_number, code_ok, codes_ok, place_number, place_of}
-use Rattle.placements.specs.Listing.{value_of, codes_of, kept, loads, listing, unlisted, list_by, list_read}
+use Rattle.placements.specs.Listing.{value_of, codes_of, kept, loads, listing, listed, unlisted, list_by, list_read}
 use Rattle.placements.specs.Claims.{ListedExactly, ListedOnly, Ascends, ListedAscending, Small, ListSmall}
 use Rattle.placements.proofs.Answering.{codes_long, by_codes}
 use Rattle.placements.proofs.Padding.{length-padded}
@@ -206,18 +206,16 @@ module _ (f : ℕ → Bool) where
 
 -- ## The answer
 
-module _ (base : ℕ) (net : Net) where
-  pub list-base : base ≢ 0 → unlisted base ≡ list_by base net
+module _ (net : Net) where
+  pub list_wide : 6 < net.channels → unlisted 20 ≡ list_by 0 net
   unfolding list_by
-  list-base ne = rw (ne_eqb base 0 ne)
+  list_wide h = rw (lt-leb net.channels 6 h)
 
-  pub list_wide : base ≡ 0 → 6 < net.channels → unlisted 20 ≡ list_by base net
+  pub list-narrow : net.channels ≤ 6 → listed net.channels (listing net) ≡ list_by 0 net
   unfolding list_by
-  list_wide e h = rw (eq-eqb base 0 e, lt-leb net.channels 6 h)
+  list-narrow h = rw (le-leb net.channels 6 h)
 
-  pub list_done : base ≡ 0 → net.channels ≤ 6 → (count : ℕ) (numbers : List ℕ) → Kept (loads net) (4 ^ net.channels) count numbers
-      → record { refusal = 0; channels = net.channels; count = count; numbers = numbers } ≡ list_by base net
-  unfolding list_by listing
-  list_done e h count numbers is =
-      rw (eq-eqb base 0 e, le-leb net.channels 6 h)
-      (λ i. record { refusal = 0; channels = net.channels; count = is.count_is i; numbers = is.numbers_are i })
+  pub list_done : (count : ℕ) (numbers : List ℕ) → Kept (loads net) (4 ^ net.channels) count numbers
+      → record { refusal = 0; channels = net.channels; count = count; numbers = numbers } ≡ listed net.channels (listing net)
+  unfolding listing
+  list_done count numbers is = λ i. record { refusal = 0; channels = net.channels; count = is.count_is i; numbers = is.numbers_are i }

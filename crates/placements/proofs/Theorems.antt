@@ -11,10 +11,8 @@ use lib.Dec.{eqb}
 use Rattle.blocks.proofs.Folds.{clash}
 use Rattle.blocks.proofs.Options.{test}
 use Rattle.nets.specs.Net.{fields_ok}
-use Rattle.nets.specs.Verdict.{number_of, Joined, VerdictIs}
-use Rattle.nets.specs.declared.Net.{Net}
-use Rattle.nets.specs.declared.Verdict.{Verdict}
-use Rattle.nets.specs.declared.Verdict.TheVariants.{Accepted, Field, Connection, Ends, DataLoop, ControlLoop}
+use Rattle.nets.specs.Verdict.{number_of, Joined, VerdictIs, Verdict, Accepted, Field, Connection, Ends, DataLoop, ControlLoop}
+use Rattle.blocks.specs.declared.Net.{Net}
 use Rattle.nets.proofs.Decided.{verdict_of, verdict_is, verdict_of_lem}
 use Rattle.stored.specs.Form.{Outcome, loaded, denied, parse}
 use Rattle.forms.proofs.Fields.{loaded-fields}

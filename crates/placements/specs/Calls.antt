@@ -3,10 +3,8 @@
 -- Assumes nothing.
 use Rattle.std.specs.Prelude.{ℕ, ◌+◌, Bool, cond, ◌&&◌, List, leb, eqb, length, get_or}
 use Rattle.blocks.specs.Folds.{all_below}
-use Rattle.nets.specs.Verdict.{number_of}
-use Rattle.nets.specs.declared.Net.{Net}
-use Rattle.nets.specs.declared.Verdict.{Verdict}
-use Rattle.nets.specs.declared.Verdict.TheVariants.{Accepted, Field, Connection, Ends, DataLoop, ControlLoop}
+use Rattle.nets.specs.Verdict.{number_of, Verdict, Accepted, Field, Connection, Ends, DataLoop, ControlLoop}
+use Rattle.blocks.specs.declared.Net.{Net}
 use Rattle.nets.proofs.Decided.{verdict_of}
 use Rattle.stored.specs.Form.{zero_net, Outcome, loaded, denied, parse}
 use Rattle.stored.specs.declared.Loading.{Loading}

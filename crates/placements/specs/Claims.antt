@@ -2,9 +2,8 @@
 -- Assumes nothing.
 use Rattle.std.specs.Prelude.{ℕ, ◌+◌, ◌≤◌, ◌<◌, ◌≡◌, true, ◌≢◌, ◌↔◌, length, get_or, take}
 use mathlib.Core.List.{List, Memᴰ}
-use Rattle.nets.specs.Verdict.{Joined, VerdictIs}
-use Rattle.nets.specs.declared.Net.{Net}
-use Rattle.nets.specs.declared.Verdict.TheVariants.{Accepted}
+use Rattle.nets.specs.Verdict.{Joined, VerdictIs, Accepted}
+use Rattle.blocks.specs.declared.Net.{Net}
 use Rattle.stored.specs.Form.{padded, loaded, parse}
 use Rattle.placed.specs.Placed.{placed}
 use Rattle.placed.specs.Claims.{Fitting}

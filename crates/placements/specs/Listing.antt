@@ -1,7 +1,7 @@
 -- The placements of a net that load, as numbers: the codes read in base 4 with channel 0 leading (request 3), and what `list` and `list_form` answer.
 -- Assumes nothing.
 use Rattle.std.specs.Prelude.{ℕ, zero, suc, ◌+◌, ◌*◌, ◌/◌, ◌%◌, ◌^◌, Bool, cond, List, [], ◌∷◌, ◌++◌, leb, eqb, length, replicate}
-use Rattle.nets.specs.declared.Net.{Net}
+use Rattle.blocks.specs.declared.Net.{Net}
 use Rattle.nets.proofs.Decided.{verdict_of}
 use Rattle.stored.specs.Form.{padded, Outcome, loaded, denied, parse}
 use Rattle.placements.specs.Calls.{form_number, value_number, place_number}

@@ -8,13 +8,7 @@ pub fn power(n: usize) -> usize
     requires { n ≤ 6 }
     ensures { result ≡ 4 ^ n }
 {
-    let mut p: usize = 1;
-    let mut i: usize = 0;
-    while i < n {
-        p = p * 4;
-        i += 1;
-    }
-    p
+    4usize.pow(n as u32)
 }
 
 // The codes of number k on n channels, and 0 for the rest of six.
@@ -24,11 +18,9 @@ pub fn codes_of(n: usize, k: usize) -> [u8; 6]
 {
     let mut codes = [0u8; 6];
     let mut rest = k;
-    let mut j: usize = 0;
-    while j < n {
-        codes[n - 1 - j] = (rest % 4) as u8;
-        rest = rest / 4;
-        j += 1;
+    for j in (0..n).rev() {
+        codes[j] = (rest % 4) as u8;
+        rest /= 4;
     }
     codes
 }
@@ -40,10 +32,8 @@ pub fn line_of(n: usize, k: u16) -> [u8; 7]
 {
     let codes = codes_of(n, k as usize);
     let mut line = [0u8; 7];
-    let mut i: usize = 0;
-    while i < n {
+    for i in 0..n {
         line[i] = b'0' + codes[i];
-        i += 1;
     }
     line[n] = b'\n';
     line

@@ -4,28 +4,22 @@
 
 ghost use Rattle.std.specs.Prelude.{◌≤◌};
 
-use forms::Written;
-use nets::{Block, Net};
+use blocks::Kind;
+use nets::Net;
 use placements::numbers;
 use std::env::Env;
 use stored::Loading;
+use trials::{block, pairs, print_bytes};
 
 // Prints a line: a text and a number. A write that fails is passed over.
 fn say(rt: &impl Print, text: &str, n: u64) {
     let _ = println!(rt; "{text}{n}");
 }
 
-fn print_bytes(rt: &impl Print, bytes: &[u8]) {
-    for byte in bytes {
-        let _ = print!(rt; "{byte:02x}");
-    }
-    let _ = println!(rt);
-}
-
 // Prints the first n bytes.
 fn print_front(rt: &impl Print, bytes: &[u8], n: usize) {
     if n <= bytes.len() {
-        print_bytes(rt, &bytes[..n]);
+        print_bytes(rt, "", &bytes[..n]);
     }
 }
 
@@ -33,9 +27,8 @@ fn print_front(rt: &impl Print, bytes: &[u8], n: usize) {
 fn print_net(rt: &impl Print, net: Net) {
     let mut form = [0u8; 628];
     match forms::write(net, &mut form) {
-        Written::Bytes(n) => print_front(rt, &form, n),
-        Written::Unfit => say(rt, "refused ", 12),
-        Written::Short => say(rt, "refused ", 17),
+        Ok(n) => print_front(rt, &form, n),
+        Err(refusal) => say(rt, "refused ", refusal.number() as u64),
     }
 }
 
@@ -45,8 +38,7 @@ fn print_placed(rt: &impl Print, found: Loading) {
         say(rt, "refused ", found.refusal as u64);
         return;
     }
-    let net = found.net;
-    print_net(rt, net);
+    print_net(rt, found.net);
 }
 
 // Prints the placement of a form's net by number k on n channels: its codes, then what comes of it.
@@ -74,52 +66,21 @@ fn print_all(rt: &impl Print, form: &[u8]) {
     }
 }
 
-// The code of a digit; 255 for what stands before the digits.
-fn code_of(digit: u8) -> u8 {
-    if digit < 48 {
-        return 255;
-    }
-    digit - 48
-}
-
-// Prints the placement of a form's net by the codes of the second argument.
+// Prints the placement of a form's net by the codes of the second argument. What stands before the digits is no code: it becomes 255.
 fn print_one(rt: &(impl Print + Env), form: &[u8]) {
     let mut codes = [0u8; input::ROOM];
     let n = rt.arg(2, &mut codes).unwrap_or(0);
-    for i in 0..n {
-        codes[i] = code_of(codes[i]);
+    for code in &mut codes[..n] {
+        *code = code.checked_sub(b'0').unwrap_or(255);
     }
     print_placed(rt, placements::place_form(form, &codes[..n]));
 }
 
-fn zero_block() -> Block {
-    Block {
-        kind: 0,
-        m: 0,
-        value: 0,
-        ports: [0u8; 10],
-    }
-}
-
-// A block of a kind with ports p and q.
-fn block(kind: u8, p: u8, q: u8) -> Block {
-    let mut ports = [0u8; 10];
-    ports[0] = p;
-    ports[1] = q;
-    Block {
-        kind,
-        m: 0,
-        value: 0,
-        ports,
-    }
-}
-
 // A source joined to a sink on channel 0, and a data buffer joined to itself on channel 1.
 fn looped() -> Net {
-    let zero = zero_block();
-    let mut blocks = [zero; 64];
-    blocks[1] = block(1, 0, 0);
-    blocks[2] = block(8, 1, 1);
+    let mut blocks = [block(Kind::Source, 0, 0); 64];
+    blocks[1] = block(Kind::Sink, 0, 0);
+    blocks[2] = block(Kind::Buffer, 1, 1);
     Net {
         size: 3,
         channels: 2,
@@ -127,24 +88,9 @@ fn looped() -> Net {
     }
 }
 
-// 32 sources, each joined to a sink.
-fn pairs() -> Net {
-    let zero = zero_block();
-    let mut blocks = [zero; 64];
-    for i in 0..64 {
-        blocks[i] = block((i % 2) as u8, (i / 2) as u8, 0);
-    }
-    Net {
-        size: 64,
-        channels: 32,
-        blocks,
-    }
-}
-
 // Prints the refusal of a placement.
 fn show(rt: &impl Print, text: &str, net: Net, codes: &[u8]) {
-    let found = placements::place(net, codes);
-    say(rt, text, found.refusal as u64);
+    say(rt, text, placements::place(net, codes).refusal as u64);
 }
 
 // Prints the refusal of a list and its count.
@@ -176,8 +122,10 @@ fn trial_of_values(rt: &impl Print) {
     codes[0] = 4;
     show(rt, "64 blocks, a code above 3 too: ", full, &codes);
     show_list(rt, "32 channels: ", full);
-    let mut torn = looped();
-    torn.channels = 3;
+    let torn = Net {
+        channels: 3,
+        ..looped()
+    };
     show(rt, "a channel without ports: ", torn, &[4u8]);
     show_list(rt, "its list: ", torn);
 }
@@ -189,11 +137,9 @@ fn main(rt: HostRuntime) {
         return;
     }
     let mut buf = [0u8; input::ROOM];
-    let form = input::read_form(&rt, b"placetry", &mut buf);
-    if form.failed {
+    let Some(n) = input::read_form(&rt, b"placetry", &mut buf) else {
         return;
-    }
-    let n = form.bytes;
+    };
     if input::has_argument(&rt, 2) {
         print_one(&rt, &buf[..n]);
     } else {

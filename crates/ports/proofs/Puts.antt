@@ -3,24 +3,11 @@
 use Prim.Native.Nat.{ℕ, ◌+◌, ◌-◌, ◌<◌}
 use native.Mathlib.Decide.{dec_lt}
 use mathlib.Core.Path.{◌≡◌, refl, sym, ap, ◌∙◌}
-use mathlib.Core.List.{List}
 use native.Mathlib.Omega.{arith}
 use borrow.Author.Count.{below_more}
-use lib.ListN.{length, get_or, set}
-use lib.Seq.{get_or-set_same, get_or-set_other}
 use Rattle.ports.specs.Places.{Apart, Put}
 
--- a list with one entry set, read at the entry and elsewhere
-pub set_here : {A : Type 0} (l : List A) (c : ℕ) (v d : A) → length l ≡ 128 → c < 128 → get_or (set l c v) c d ≡ v
-set_here l c v d e h = get_or-set_same l c v d (omega arith)
-
-pub set_there : {A : Type 0} (l : List A) (c k : ℕ) (v d : A) → (k ≡ c → ⊥) → get_or (set l c v) k d ≡ get_or l k d
-set_there l c k v d n = get_or-set_other l c k v d n
-
 module _ {A : Type 0} where
-  pub put_one : (c : ℕ) (v : A) (before after : ℕ → A) → after c ≡ v → ((k : ℕ) → (k ≡ c → ⊥) → after k ≡ before k) → Put (λ j. c) (λ j. v) 1 before after
-  put_one c v before after here there = record { own = λ j h. here; others = λ k away. there k (away 0 (omega arith)) }
-
   pub put_none : (to : ℕ → ℕ) (what : ℕ → A) (f : ℕ → A) → Put to what 0 f f
   put_none to what f = record { own = λ j h. absurd (never j h); others = λ c away. refl }
     where

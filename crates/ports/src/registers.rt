@@ -1,106 +1,65 @@
 // The next registers of a block, by kind.
-ghost use Rattle.std.specs.Prelude.{◌≡◌, Bool, true, false, List, [], ℕ, ◌≤◌, ◌<◌, ◌^◌, get_or};
+ghost use Rattle.std.specs.Prelude.{◌≡◌, true, List, [], ℕ, ◌≤◌, ◌<◌, ◌^◌};
 ghost use Rattle.std.proofs.Math.Option.{Option};
 ghost use Rattle.blocks.specs.Kinds.{source, fork, merge, buffer, control};
 ghost use Rattle.blocks.specs.Equations.{control_out};
-ghost use Rattle.ports.specs.Places.{sig_at, ready_at, port_at, Ported};
+ghost use Rattle.ports.specs.Places.{sig_at, ready_at, port_at};
 ghost use Rattle.ports.specs.Worked.{next_here, GoneQuiet};
 
+use crate::Wired;
 use crate::backward::gone_with;
 use crate::forward::{winner_of, won_by};
-use crate::{look, place};
-use blocks::Reg;
+use blocks::{Reg, Sig};
 
 // A source that offers a word is not at the last position that there is.
-pub fn next_source(
-    reg: Reg,
-    base: usize,
-    rows: &[u8; 768],
-    valid: &[bool; 128],
-    ready: &[bool; 128],
-) -> Reg
-    requires ported { Ported rows.now base }
-    requires word_bound { get_or valid.now (port_at rows.now base 0) false ≡ true → reg.word < 4294967295 }
-    ensures { (xs : List ℕ) (word : List ℕ) → result ≡ next_here (source xs) reg rows.now base (sig_at valid.now word) (ready_at ready.now) }
+pub fn next_source(at: Wired, reg: Reg, signals: &[Sig; 128], ready: &[bool; 128]) -> Reg
+    requires { (sig_at signals.now (port_at at.block.now 0)).valid ≡ true → reg.word < 4294967295 }
+    ensures { (xs : List ℕ) → result ≡ next_here (source xs) reg at.entry.block.now (sig_at signals.now) (ready_at ready.now) }
 {
-    let c = place(rows, base, 0);
-    blocks::cycle::source_next(reg, valid[c], ready[c])
+    let c = at.place(0);
+    blocks::cycle::source_next(reg, signals[c].valid, ready[c])
 }
 
-pub fn next_fork(
-    m: u8,
-    reg: Reg,
-    base: usize,
-    rows: &[u8; 768],
-    valid: &[bool; 128],
-    ready: &[bool; 128],
-) -> Reg
-    requires ported { Ported rows.now base }
-    requires le_m { 2 ≤ m }
-    requires m_bound { m ≤ 8 }
-    requires marks_bound { reg.marks < 2 ^ m }
-    requires gone_quiet { GoneQuiet m 1 reg.marks rows.now base valid.now }
-    ensures { (word : List ℕ) → result ≡ next_here (fork m) reg rows.now base (sig_at valid.now word) (ready_at ready.now) }
+pub fn next_fork(at: Wired, reg: Reg, signals: &[Sig; 128], ready: &[bool; 128]) -> Reg
+    requires le_m { 2 ≤ at.block.now.m }
+    requires m_bound { at.block.now.m ≤ 8 }
+    requires marks_bound { reg.marks < 2 ^ at.block.now.m }
+    requires gone_quiet { GoneQuiet at.block.now.m 1 reg.marks at.block.now signals.now }
+    ensures { let block = at.entry.block.now in result ≡ next_here (fork block.m) reg block (sig_at signals.now) (ready_at ready.now) }
 {
-    let gone = gone_with(m, 1, reg.marks, base, rows, valid, ready);
-    let c = place(rows, base, 0);
+    let gone = gone_with(at.block.m, 1, reg.marks, at, signals, ready);
     Reg {
         word: reg.word,
-        marks: blocks::cycle::fork_next(ready[c], gone),
+        marks: blocks::cycle::fork_next(ready[at.place(0)], gone),
     }
 }
 
-pub fn next_merge(
-    m: u8,
-    reg: Reg,
-    base: usize,
-    rows: &[u8; 768],
-    valid: &[bool; 128],
-    word: &[u32; 128],
-    ready: &[bool; 128],
-) -> Reg
-    requires ported { Ported rows.now base }
-    requires m_bound { m ≤ 8 }
-    requires word_le_m { reg.word ≤ m }
+pub fn next_merge(at: Wired, reg: Reg, signals: &[Sig; 128], ready: &[bool; 128]) -> Reg
+    requires m_bound { at.block.now.m ≤ 8 }
+    requires word_le_m { reg.word ≤ at.block.now.m }
     requires marks_bound { reg.marks < 4 }
-    requires gone_quiet { GoneQuiet 2 m reg.marks rows.now base valid.now }
-    ensures { result ≡ next_here (merge m []) reg rows.now base (sig_at valid.now word.now) (ready_at ready.now) }
+    requires gone_quiet { GoneQuiet 2 at.block.now.m reg.marks at.block.now signals.now }
+    ensures { let block = at.entry.block.now in result ≡ next_here (merge block.m []) reg block (sig_at signals.now) (ready_at ready.now) }
 {
-    let w = winner_of(m, reg.word, base, rows, valid);
-    let a = won_by(m, w, base, rows, valid, word);
-    let gone = gone_with(2, m as usize, reg.marks, base, rows, valid, ready);
+    let w = winner_of(at, reg.word, signals);
+    let a = won_by(at, w, signals);
+    let gone = gone_with(2, at.block.m as usize, reg.marks, at, signals, ready);
     let done = blocks::cycle::fork_ready(2, true, gone);
     blocks::cycle::merge_next(reg, a.valid, done, w, gone)
 }
 
-pub fn next_data(
-    reg: Reg,
-    base: usize,
-    rows: &[u8; 768],
-    valid: &[bool; 128],
-    word: &[u32; 128],
-    ready: &[bool; 128],
-) -> Reg
-    requires { Ported rows.now base }
-    ensures { (o : Option ℕ) → result ≡ next_here (buffer o) reg rows.now base (sig_at valid.now word.now) (ready_at ready.now) }
+pub fn next_data(at: Wired, reg: Reg, signals: &[Sig; 128], ready: &[bool; 128]) -> Reg
+    ensures { (o : Option ℕ) → result ≡ next_here (buffer o) reg at.entry.block.now (sig_at signals.now) (ready_at ready.now) }
 {
-    let c = place(rows, base, 0);
-    blocks::cycle::data_next(reg, look(c, valid, word), ready[c])
+    let c = at.place(0);
+    blocks::cycle::data_next(reg, signals[c], ready[c])
 }
 
 // The output shows what the buffer holds or passes.
-pub fn next_control(
-    reg: Reg,
-    base: usize,
-    rows: &[u8; 768],
-    valid: &[bool; 128],
-    word: &[u32; 128],
-    ready: &[bool; 128],
-) -> Reg
-    requires ported { Ported rows.now base }
-    requires base_value { sig_at valid.now word.now (port_at rows.now base 1) ≡ control_out reg (sig_at valid.now word.now (port_at rows.now base 0)) }
-    ensures { result ≡ next_here control reg rows.now base (sig_at valid.now word.now) (ready_at ready.now) }
+pub fn next_control(at: Wired, reg: Reg, signals: &[Sig; 128], ready: &[bool; 128]) -> Reg
+    requires { sig_at signals.now (port_at at.block.now 1) ≡ control_out reg (sig_at signals.now (port_at at.block.now 0)) }
+    ensures { result ≡ next_here control reg at.entry.block.now (sig_at signals.now) (ready_at ready.now) }
 {
-    let c = place(rows, base, 1);
-    blocks::cycle::control_next(look(c, valid, word), ready[c])
+    let c = at.place(1);
+    blocks::cycle::control_next(signals[c], ready[c])
 }

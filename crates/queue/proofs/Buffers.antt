@@ -20,14 +20,14 @@ use Rattle.blocks.proofs.Folds.{clash}
 use Rattle.blocks.proofs.Options.{test}
 use Rattle.nets.specs.Block.{ins}
 use Rattle.nets.specs.Net.{block_at}
-use Rattle.nets.specs.declared.Net.{Net}
+use Rattle.blocks.specs.declared.Net.{Net}
 use Rattle.nets.proofs.Nets.{channels-high}
 use Rattle.cycles.specs.Streams.{stream_of, mask_of}
 use Rattle.cycles.specs.Wires.{view_of, kind_at}
 use Rattle.cycles.specs.Cycle.{Signals, signals_of, next_at}
 use Rattle.cycles.specs.State.{regs_of, plain_kind, fresh_state}
 use Rattle.cycles.specs.Step.{refused_step, refusal_by, stepped_by}
-use Rattle.cycles.specs.declared.State.{State}
+use Rattle.blocks.specs.declared.State.{State}
 use Rattle.cycles.specs.declared.Stepped.{Stepped}
 use Rattle.blocks.proofs.Numbers.{beyond, by_kind}
 use Rattle.cycles.proofs.Joins.{ins_are, inp_range, out_range}

@@ -14,14 +14,14 @@ use Rattle.blocks.specs.Equations.{fresh_reg}
 use Rattle.blocks.proofs.Options.{test}
 use Rattle.blocks.proofs.Numbers.{by_kind}
 use Rattle.nets.specs.Net.{block_at, is_kind}
-use Rattle.nets.specs.declared.Net.{Net}
+use Rattle.blocks.specs.declared.Net.{Net}
 use Rattle.nets.proofs.Nets.{channels-high}
 use Rattle.cycles.specs.Streams.{stream_of, mask_of}
 use Rattle.cycles.specs.Wires.{View}
 use Rattle.cycles.specs.Cycle.{Signals}
 use Rattle.cycles.specs.State.{regs_of, fresh_state}
 use Rattle.cycles.specs.Step.{refusal_by, refused_step, stepped_by, step_by}
-use Rattle.cycles.specs.declared.State.{State}
+use Rattle.blocks.specs.declared.State.{State}
 use Rattle.cycles.specs.declared.Stepped.{Stepped}
 use Rattle.cycles.proofs.Wiring.{Wired}
 use Rattle.cycles.proofs.Solution.{Orders}

@@ -10,7 +10,7 @@ use Rattle.blocks.specs.Kinds.{Kind, merge}
 use Rattle.blocks.specs.Ports.{n_out}
 use Rattle.blocks.proofs.Folds.{clash}
 use Rattle.nets.specs.Net.{block_at}
-use Rattle.nets.specs.declared.Net.{Net}
+use Rattle.blocks.specs.declared.Net.{Net}
 use Rattle.nets.proofs.Nets.{channels-high}
 use Rattle.cycles.specs.Wires.{View}
 use Rattle.cycles.specs.State.{regs_of}

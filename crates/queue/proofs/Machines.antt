@@ -14,7 +14,7 @@ use Rattle.blocks.specs.Ports.{n_in, n_out}
 use Rattle.blocks.specs.Firing.{Turn, turn, first}
 use Rattle.blocks.proofs.Options.{test}
 use Rattle.nets.specs.Net.{block_at, is_kind, fields_ok, connected}
-use Rattle.nets.specs.declared.Net.{Net}
+use Rattle.blocks.specs.declared.Net.{Net}
 use Rattle.cycles.specs.Streams.{stream_of}
 use Rattle.cycles.specs.Wires.{View, view_of, kind_at}
 use Rattle.cycles.proofs.Wiring.{Wired}

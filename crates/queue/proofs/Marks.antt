@@ -10,11 +10,11 @@ use lib.Dec.{eqb}
 use lib.ListN.{get_or, get_or-replicate}
 use Rattle.blocks.specs.Folds.{one}
 use Rattle.nets.specs.Net.{fields_ok}
-use Rattle.nets.specs.declared.Net.{Net}
+use Rattle.blocks.specs.declared.Net.{Net}
 use Rattle.nets.proofs.Nets.{channels-high}
 use Rattle.cycles.specs.Cycle.{Signals, moves}
 use Rattle.cycles.specs.Step.{refusal_by, refused_step, stepped_by}
-use Rattle.cycles.specs.declared.State.{State}
+use Rattle.blocks.specs.declared.State.{State}
 use Rattle.cycles.specs.declared.Stepped.{Stepped}
 use Rattle.cycles.proofs.Steps.{step_refused, mark_at, word_at}
 use Rattle.queue.specs.Delivered.{Input, step_on, marked, delivered_from}

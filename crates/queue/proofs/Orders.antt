@@ -12,7 +12,7 @@ use Rattle.blocks.specs.Ports.{n_in}
 use Rattle.blocks.proofs.Local.{waits}
 use Rattle.nets.specs.Net.{fields_ok, connected}
 use Rattle.nets.specs.Promises.{InOrder}
-use Rattle.nets.specs.declared.Net.{Net}
+use Rattle.blocks.specs.declared.Net.{Net}
 use Rattle.cycles.specs.Wires.{View, view_of, kind_at, producer}
 use Rattle.cycles.specs.State.{tab}
 use Rattle.cycles.proofs.Wiring.{Wired}

@@ -13,8 +13,8 @@ use Rattle.blocks.specs.Words.{operate}
 use Rattle.blocks.proofs.Folds.{all_at}
 use Rattle.nets.specs.Block.{ins, outs, on_side, ports_ok, block_ok}
 use Rattle.nets.specs.Net.{block_at, is_kind, block_zero, fields_ok, kind_count, port_count, connected, place_of}
-use Rattle.nets.specs.declared.Block.{Block}
-use Rattle.nets.specs.declared.Net.{Net}
+use Rattle.blocks.specs.declared.Block.{Block}
+use Rattle.blocks.specs.declared.Net.{Net}
 use Rattle.nets.proofs.Accepting.{rises, acceptable, accepted_test}
 use Rattle.nets.proofs.Trials.{line, line_accepted}
 use Rattle.cycles.specs.Streams.{ends_fit}

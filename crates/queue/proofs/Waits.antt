@@ -14,14 +14,14 @@ use Rattle.blocks.specs.Ports.{n_out}
 use Rattle.blocks.specs.Equations.{fresh_reg}
 use Rattle.blocks.proofs.Folds.{clash}
 use Rattle.nets.specs.Net.{block_at}
-use Rattle.nets.specs.declared.Net.{Net}
+use Rattle.blocks.specs.declared.Net.{Net}
 use Rattle.nets.proofs.Nets.{channels-high}
 use Rattle.cycles.specs.Streams.{stream_of, mask_of}
 use Rattle.cycles.specs.Wires.{view_of}
 use Rattle.cycles.specs.Cycle.{Signals, signals_of, next_at}
 use Rattle.cycles.specs.State.{regs_of, fresh_state}
 use Rattle.cycles.specs.Step.{refusal_by, refused_step, state_after, stepped_by, step_by, fresh_by}
-use Rattle.cycles.specs.declared.State.{State}
+use Rattle.blocks.specs.declared.State.{State}
 use Rattle.cycles.specs.declared.Stepped.{Stepped}
 use Rattle.cycles.proofs.Joins.{out_range}
 use Rattle.cycles.proofs.Solution.{solves}

@@ -7,8 +7,8 @@ use Rattle.blocks.specs.Firing.{first}
 use Rattle.nets.specs.Net.{block_at}
 use Rattle.nets.specs.Loops.{is_buffer}
 use Rattle.nets.specs.Verdict.{VerdictIs}
-use Rattle.nets.specs.declared.Net.{Net}
-use Rattle.nets.specs.declared.Verdict.TheVariants.{Accepted}
+use Rattle.blocks.specs.declared.Net.{Net}
+use Rattle.nets.specs.Verdict.{Accepted}
 use Rattle.cycles.specs.Wires.{view_of}
 use Rattle.cycles.specs.State.{regs_of, plain_kind}
 use Rattle.cycles.specs.Step.{fresh_by}

@@ -4,12 +4,12 @@
 use Rattle.std.specs.Prelude.{ℕ, zero, suc, Bool, cond, List, [], ◌∷◌, ◌++◌, eqb, get_or}
 use Rattle.blocks.specs.Folds.{bit}
 use Rattle.blocks.specs.declared.Reg.{Reg}
-use Rattle.nets.specs.declared.Net.{Net}
+use Rattle.blocks.specs.declared.Net.{Net}
 use Rattle.cycles.specs.Wires.{view_of}
 use Rattle.cycles.specs.Cycle.{Signals, signals_of}
 use Rattle.cycles.specs.State.{regs_of}
 use Rattle.cycles.specs.Step.{step_by, fresh_by}
-use Rattle.cycles.specs.declared.State.{State}
+use Rattle.blocks.specs.declared.State.{State}
 use Rattle.cycles.specs.declared.Stepped.{Stepped}
 
 -- what a step is given beside the net and the state: streams and masks

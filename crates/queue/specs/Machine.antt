@@ -8,7 +8,7 @@ use Rattle.blocks.specs.Kinds.{merge}
 use Rattle.blocks.specs.Ports.{n_in, n_out}
 use Rattle.blocks.specs.Firing.{Turn, turn, first}
 use Rattle.nets.specs.Net.{block_at, is_kind}
-use Rattle.nets.specs.declared.Net.{Net}
+use Rattle.blocks.specs.declared.Net.{Net}
 use Rattle.cycles.specs.Wires.{View, kind_at, view_of}
 
 -- By channel: all the words ever put, and how many of them have been taken; the queue is the rest. By block: how often it has fired, for a source its place

@@ -1,7 +1,6 @@
 -- Bits, most significant first (document 01, "The stored form"): the bits of a number, the number that bits make, the bits of a form's bytes, and the field at a bit position.
 -- Assumes nothing.
-use Rattle.std.specs.Prelude.{ℕ, zero, suc, ◌+◌, ◌*◌, ◌/◌, ◌%◌, ◌^◌, List, [], ◌∷◌, ◌++◌, Bool, true, false, cond, length, get_or, take, drop, leb, eqb}
-use Rattle.std.proofs.Math.Option.{Option, none, some}
+use Rattle.std.specs.Prelude.{ℕ, zero, suc, ◌+◌, ◌*◌, ◌/◌, ◌%◌, ◌^◌, List, [], ◌∷◌, ◌++◌, Bool, true, false, cond, length, get_or, take, drop, leb, eqb, Option, Some, None}
 
 -- a bit as a number
 abbrev pub digit : Bool → ℕ
@@ -32,4 +31,4 @@ bit_at b k = digit (get_or (bits 8 b) k false)
 
 -- the number that the w bits from bit at on make, none where the bytes end within them
 unfoldable pub field_at : List ℕ → ℕ → ℕ → Option ℕ
-field_at f at w = cond (leb (at + w) (8 * length f)) (some (number (take w (drop at (bits_of f))))) none
+field_at f at w = cond (leb (at + w) (8 * length f)) (Some (number (take w (drop at (bits_of f))))) None

@@ -7,7 +7,7 @@ use mathlib.Core.List.{List, [], ◌∷◌, ◌++◌}
 use lib.ListN.{length, get_or}
 use Rattle.trace.specs.Numbers.{four_bytes, numbers_of}
 use Rattle.trace.specs.Records.{record_of, bytes_of, trace_of}
-use Rattle.trace.proofs.ByteNumbers.{length_numbers}
+use Rattle.trace.proofs.ByteNumbers.{length_numbers, numbers_lt}
 use Rattle.recorded.specs.Recorded.{paired, records_read, channel_of, word_of}
 
 length-paired : (l : List ℕ) → length (paired l) ≡ length l / 2
@@ -33,6 +33,17 @@ paired_at [] i h = absurd (omega arith)
 pub record_is : (bytes : List ℕ) (i : ℕ) → 8 * i + 8 ≤ length bytes
     → get_or (records_read bytes) i 0 ≡ get_or (numbers_of bytes) (2 * i) 0 * 2 ^ 32 + get_or (numbers_of bytes) (2 * i + 1) 0
 record_is bytes i h = paired_at (numbers_of bytes) i (omega (arith, length_numbers bytes))
+
+-- the channel is in the upper number, and the lower one is the word
+module _ (bytes : List ℕ) (fit : (k : ℕ) → get_or bytes k 0 < 256) (i : ℕ) (h : 8 * i + 8 ≤ length bytes) where
+  low : get_or (numbers_of bytes) (2 * i + 1) 0 < 2 ^ 32
+  low = numbers_lt bytes fit (2 * i + 1)
+
+  pub upper_channel : get_or (numbers_of bytes) (2 * i) 0 % 128 ≡ channel_of (get_or (records_read bytes) i 0)
+  upper_channel = omega (arith, record_is bytes i h, low)
+
+  pub lower_word : get_or (numbers_of bytes) (2 * i + 1) 0 ≡ word_of (get_or (records_read bytes) i 0)
+  lower_word = omega (arith, record_is bytes i h, low)
 
 -- whole records and then more bytes
 pub read_append : (bytes more : List ℕ) → length bytes % 8 ≡ 0 → records_read (bytes ++ more) ≡ records_read bytes ++ records_read more

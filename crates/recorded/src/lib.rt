@@ -5,39 +5,54 @@ ghost use Rattle.std.specs.Prelude.{◌≡◌, ◌+◌, ◌*◌, ◌≤◌, leng
 ghost use Rattle.recorded.specs.Recorded.{records_read, cycle_of, channel_of, word_of};
 
 use trace::numbers::number_at;
+use trace::records::{CHANNEL, CYCLE};
 
-// The number whose upper half is head and whose lower half is word.
-fn joined(head: u32, word: u32) -> u64
-    ensures { result ≡ head * 4294967296 + word }
-{
-    head as u64 * 4294967296 + word as u64
-}
+// How many channels a record's 7 bits tell apart.
+const CHANNELS: u64 = 128;
 
 // Record i of the bytes.
 pub fn record_at(bytes: &[u8], i: usize) -> u64
     requires { 8 * i + 8 ≤ length bytes.now }
     ensures { result ≡ get_or (records_read bytes.now) i 0 }
 {
-    joined(number_at(bytes, 2 * i), number_at(bytes, 2 * i + 1))
+    let head = number_at(bytes, 2 * i);
+    let word = number_at(bytes, 2 * i + 1);
+    head as u64 * CHANNEL + word as u64
+}
+
+// The channel of record i of the bytes: of its upper number alone, as a search for a channel's records reads all of them.
+pub fn channel_at(bytes: &[u8], i: usize) -> u8
+    requires { 8 * i + 8 ≤ length bytes.now }
+    ensures { result ≡ channel_of (get_or (records_read bytes.now) i 0) }
+{
+    (number_at(bytes, 2 * i) % CHANNELS as u32) as u8
+}
+
+// The word of record i of the bytes.
+pub fn word_at(bytes: &[u8], i: usize) -> u32
+    requires { 8 * i + 8 ≤ length bytes.now }
+    ensures { result ≡ word_of (get_or (records_read bytes.now) i 0) }
+{
+    number_at(bytes, 2 * i + 1)
 }
 
 // The cycle of a record.
 pub fn cycle_of(r: u64) -> u64
     ensures { result ≡ cycle_of r }
 {
-    r / 549755813888
+    r / CYCLE
 }
 
 // The channel of a record.
 pub fn channel_of(r: u64) -> u8
     ensures { result ≡ channel_of r }
 {
-    (r / 4294967296 % 128) as u8
+    (r / CHANNEL % CHANNELS) as u8
 }
 
 // The word of a record.
 pub fn word_of(r: u64) -> u32
     ensures { result ≡ word_of r }
 {
-    (r % 4294967296) as u32
+    (r % CHANNEL) as u32
 }

@@ -10,11 +10,11 @@ use lib.Dec.{ltb, eqb}
 use lib.ListN.{length, get_or, replicate, length-append, get_or-append, get_or-replicate}
 use lib.Seq.{get_or-append-add}
 use Rattle.blocks.proofs.Options.{test}
-use Rattle.nets.specs.declared.Net.{Net}
+use Rattle.blocks.specs.declared.Net.{Net}
 use Rattle.nets.proofs.Decided.{accepted}
 use Rattle.cycles.specs.Cycle.{Signals, signals_of, moves}
 use Rattle.cycles.specs.State.{regs_of}
-use Rattle.cycles.specs.declared.State.{State}
+use Rattle.blocks.specs.declared.State.{State}
 use Rattle.cycles.specs.declared.Stepped.{Stepped}
 use Rattle.cycles.proofs.Steps.{step-cases, word_at}
 use Rattle.queue.specs.Delivered.{marked}

@@ -21,15 +21,15 @@ use Rattle.blocks.proofs.Options.{test}
 use Rattle.blocks.proofs.Numbers.{by_kind, fresh_plain}
 use Rattle.nets.specs.Block.{no_block}
 use Rattle.nets.specs.Net.{block_at, number_among}
-use Rattle.nets.specs.declared.Block.{Block}
-use Rattle.nets.specs.declared.Net.{Net}
+use Rattle.blocks.specs.declared.Block.{Block}
+use Rattle.blocks.specs.declared.Net.{Net}
 use Rattle.nets.proofs.Decided.{accepted}
 use Rattle.cycles.specs.Streams.{ends_fit, end_before, stream_of, mask_of}
 use Rattle.cycles.specs.Wires.{view_of, kind_at, producer, out_port, consumer, in_port}
 use Rattle.cycles.specs.Cycle.{Signals, ask, signals, signals_of, next_at}
 use Rattle.cycles.specs.State.{tab, regs_of, on_net, state_of, plain_kind}
 use Rattle.cycles.specs.Step.{fresh_by}
-use Rattle.cycles.specs.declared.State.{State}
+use Rattle.blocks.specs.declared.State.{State}
 use Rattle.cycles.specs.declared.Stepped.{Stepped}
 use Rattle.cycles.proofs.States.{length-tab, regs_on}
 use Rattle.cycles.proofs.Steps.{step-cases}

@@ -11,8 +11,8 @@ use lib.Dec.{ltb, eqb}
 use lib.ListN.{length, get_or, drop, length-append}
 use lib.Seq.{take_at}
 use Rattle.blocks.proofs.Options.{test}
-use Rattle.nets.specs.declared.Net.{Net}
-use Rattle.cycles.specs.declared.State.{State}
+use Rattle.blocks.specs.declared.Net.{Net}
+use Rattle.blocks.specs.declared.State.{State}
 use Rattle.cycles.specs.declared.Stepped.{Stepped}
 use Rattle.queue.specs.Delivered.{Input, marked, over}
 use Rattle.trace.specs.Records.{trace_of}

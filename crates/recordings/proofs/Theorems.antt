@@ -11,12 +11,12 @@ use lib.Dec.{ltb}
 use lib.ListN.{length, replicate, get_or-replicate, length-replicate}
 use Rattle.blocks.proofs.Options.{test}
 use Rattle.nets.specs.Net.{block_at}
-use Rattle.nets.specs.declared.Net.{Net}
+use Rattle.blocks.specs.declared.Net.{Net}
 use Rattle.nets.proofs.Decided.{accepted, accepted_true}
 use Rattle.nets.proofs.Nets.{channels-high}
 use Rattle.cycles.specs.Cycle.{signals_of}
 use Rattle.cycles.specs.State.{regs_of}
-use Rattle.cycles.specs.declared.State.{State}
+use Rattle.blocks.specs.declared.State.{State}
 use Rattle.cycles.specs.declared.Stepped.{Stepped}
 use Rattle.cycles.proofs.Steps.{step-cases, mark_at}
 use Rattle.queue.specs.Delivered.{Input, marked, over}

@@ -13,7 +13,7 @@ use Rattle.blocks.specs.Ports.{ports_of}
 use Rattle.blocks.specs.Words.{operate}
 use Rattle.nets.specs.Block.{ins, outs, on_side}
 use Rattle.nets.specs.Net.{kind_count, place_of}
-use Rattle.nets.specs.declared.Block.{Block}
+use Rattle.blocks.specs.declared.Block.{Block}
 use Rattle.nets.proofs.Trials.{block, line}
 use Rattle.forms.proofs.Examples.{all_same, line_sized}
 use Rattle.cycles.specs.Streams.{ends_fit}

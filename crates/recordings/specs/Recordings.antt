@@ -2,11 +2,11 @@
 -- Assumes nothing.
 use Rattle.std.specs.Prelude.{ℕ, zero, suc, ◌+◌, ◌*◌, ◌^◌, ◌<◌, ◌≡◌, ◌≢◌, true, List, [], ◌∷◌, ◌++◌, length, get_or, take}
 use Rattle.nets.specs.Net.{block_at}
-use Rattle.nets.specs.declared.Block.{Block}
-use Rattle.nets.specs.declared.Net.{Net}
+use Rattle.blocks.specs.declared.Block.{Block}
+use Rattle.blocks.specs.declared.Net.{Net}
 use Rattle.nets.proofs.Decided.{accepted}
 use Rattle.stored.specs.Sizes.{All, Sized}
-use Rattle.cycles.specs.declared.State.{State}
+use Rattle.blocks.specs.declared.State.{State}
 use Rattle.queue.specs.Claims.{MergeFree, Comparable}
 use Rattle.sim.specs.Calls.{fresh_of}
 use Rattle.runs.specs.declared.Run.{Run}

@@ -1,39 +1,16 @@
--- Rows written one after the other, the blocks of the kinds listed one after the other, and the blocks of one kind.
+-- The blocks of the kinds, listed one after the other.
 -- Assumes nothing.
-use mathlib.Core.Path.{◌≡◌, refl, sym, ap, ◌∙◌}
-use mathlib.Core.Bool.{Bool, true, false}
-use mathlib.Core.List.{List}
-use mathlib.Core.Logic.{◌⊎◌, inl, inr}
-use Prim.Native.Nat.{ℕ, ◌+◌, ◌*◌, ◌≤◌, ◌<◌}
+use Rattle.std.proofs.Common.{◌≡◌, refl, sym, ap, ◌∙◌, Bool, true, false, List, [], ◌∷◌, ◌++◌, ℕ, ◌+◌, ◌≤◌, ◌<◌, arith, eq-eqb, ne_eqb, length, get_or, set, length-append, length-set}
+use Rattle.std.proofs.Math.ListN.{get_or-append, replicate, get_or-replicate}
+use Rattle.std.proofs.Math.Seq.{get_or-append_seam, get_or-set_same, get_or-set_other}
 use native.Mathlib.Decide.{ℕ_discrete, dec_lt}
-use native.Mathlib.Omega.{arith}
-use borrow.Author.Tests.{eqb-true, eq-eqb, ne_eqb}
-use lib.ListN.{length, get_or, set, replicate, get_or-replicate}
-use lib.Seq.{get_or-set_same, get_or-set_other}
 use Rattle.blocks.specs.Folds.{one, count_below}
 use Rattle.blocks.specs.Ports.{m_ok}
-use Rattle.blocks.proofs.Folds.{count_none, count_more, count_bound, clash}
+use Rattle.blocks.specs.declared.Net.{Net}
+use Rattle.blocks.proofs.Folds.{count_none, count_more, clash}
 use Rattle.blocks.proofs.Numbers.{no_kind}
-use Rattle.nets.specs.declared.Block.{Block}
-use Rattle.passes.specs.Rows.{kind_no, is_kind_no, in_kind, Listed, Kinds}
-use Rattle.passes.proofs.Listings.{listed-few}
-use Rattle.rows.specs.Flat.{RowIs, Among}
-
--- an index outside a row's ports is none of them
-pub off_row : (row i k : ℕ) → i < 10 → (k < row) ⊎ (row + 10 ≤ k) → k ≡ row + i → ⊥
-off_row row i k h (inl l) e = omega arith
-off_row row i k h (inr l) e = omega arith
-
--- a row stays where its entries do
-pub row_kept : (block : Block) (before after : List ℕ) (b : ℕ) → ((k : ℕ) → k < b * 12 + 12 → get_or after k 0 ≡ get_or before k 0) → RowIs block before b → RowIs block after b
-row_kept block before after b same r =
-    record {
-      kind_is = same (b * 12 + 10) (omega arith) ∙ r.kind_is;
-      m_is = same (b * 12 + 11) (omega arith) ∙ r.m_is;
-      port_is = λ i h. same (b * 12 + i) (omega arith) ∙ r.port_is i h;
-    }
-
--- ## Blocks by kind
+use Rattle.passes.specs.Rows.{kind_no, is_kind_no, blocks_in, Listed, Kinds}
+use Rattle.passes.specs.declared.Blocks.{Blocks}
 
 -- a block's kind is at most 10
 pub kind-small : (k m : ℕ) → m_ok k m ≡ true → k < 11
@@ -43,95 +20,79 @@ kind-small k m e = go (dec_lt k 11)
     go (yes h) = h
     go (no h) = clash e (no_kind k m (omega arith))
 
-pub listed-none : (rows : List ℕ) (kind : ℕ) (at : ℕ → ℕ) → Listed rows 0 kind 0 at
-listed-none rows kind at = record { count_is = sym (count_none (is_kind_no rows kind)); each = λ k h. absurd (never k h) }
+-- the first b blocks of a net
+abbrev pub up_to : Net → ℕ → Net
+up_to net b = record { size = b; channels = net.channels; blocks = net.blocks }
+
+listed-none : (net : Net) (kind : ℕ) → Listed (up_to net 0) kind []
+listed-none net kind = record { count_is = sym (count_none (is_kind_no net kind)); each = λ k h. absurd (never k h) }
   where
     never : (k : ℕ) → k < 0 → ⊥
     never k h = omega arith
 
-module _ (rows : List ℕ) (kind b count : ℕ) (at at' : ℕ → ℕ) (l : Listed rows b kind count at) (same : (k : ℕ) → k < count → at' k ≡ at k) where
+module _ (net : Net) (kind b : ℕ) (list : List ℕ) (l : Listed (up_to net b) kind list) where
   abbrev is : ℕ → Bool
-  is = is_kind_no rows kind
+  is = is_kind_no net kind
 
-  abbrev Entry : ℕ → Type 0
-  Entry k = (at' k < b + 1) × (is (at' k) ≡ true) × (count_below is (at' k) ≡ k)
+  abbrev Entry : List ℕ → ℕ → Type 0
+  Entry xs k = (get_or xs k 0 < b + 1) × (is (get_or xs k 0) ≡ true) × (count_below is (get_or xs k 0) ≡ k)
 
-  kept : (k : ℕ) → k < count → Entry k
-  kept k h = let a = l.each k h in rw (same k h) (omega (arith, a.0), a.1, a.2)
+  kept : (k : ℕ) → k < length list → Entry list k
+  kept k h = let a = l.each k h in (omega (arith, a.0), a.1, a.2)
 
   -- block b is of another kind
-  pub listed_skip : is b ≡ false → Listed rows (b + 1) kind count at'
+  listed_skip : is b ≡ false → Listed (up_to net (b + 1)) kind list
   listed_skip f = let z : one (is b) ≡ 0 = ap one f in record { count_is = omega (arith, l.count_is, count_more is b); each = kept }
 
   -- block b is the next of the kind
-  pub listed_next : is b ≡ true → at' count ≡ b → Listed rows (b + 1) kind (count + 1) at'
-  listed_next t e = let z : one (is b) ≡ 1 = ap one t in record { count_is = omega (arith, l.count_is, count_more is b); each = λ k h. by k h (ℕ_discrete k count) }
+  listed_next : is b ≡ true → Listed (up_to net (b + 1)) kind (list ++ b ∷ [])
+  listed_next t =
+      let z : one (is b) ≡ 1 = ap one t in
+      record { count_is = omega (arith, length-append list (b ∷ []), l.count_is, count_more is b); each = λ k h. by k h (ℕ_discrete k (length list)) }
     where
-      by : (k : ℕ) → k < count + 1 → Dec (k ≡ count) → Entry k
-      by k h (yes z) = rw (z, e) (omega arith, t, sym l.count_is)
-      by k h (no z) = kept k (omega arith)
+      by : (k : ℕ) → k < length (list ++ b ∷ []) → Dec (k ≡ length list) → Entry (list ++ b ∷ []) k
+      by k h (yes z) = rw (z, get_or-append_seam list b [] 0) (omega arith, t, sym l.count_is)
+      by k h (no z) =
+          let low : k < length list = omega (arith, length-append list (b ∷ [])) in
+          rw (get_or-append list (b ∷ []) 0 k low) (kept k low)
 
--- block b, of kind x, is put at the end of its kind's list
-module _ (rows : List ℕ) (b : ℕ) (counts lists : List ℕ) (few : b < 64) (counts-long : length counts ≡ 11) (lists-long : length lists ≡ 704) (h : Kinds rows b counts lists) where
-  abbrev x : ℕ
-  x = kind_no rows b
+-- the blocks of a kind among some of the net's, by the lists of all kinds
+abbrev pub of_no : List Blocks → ℕ → Blocks
+of_no lists kind = get_or lists kind (record { count = 0; blocks = [] })
 
-  abbrev k : ℕ
-  k = get_or counts x 0
+-- the lists have the first b blocks by kind
+pub record Sorting (net : Net) (b : ℕ) (lists : List Blocks) : Type 0 where
+  pub long : length lists ≡ 11
+  pub few : (kind : ℕ) → kind < 11 → (of_no lists kind).count ≤ b
+  pub listed : (kind : ℕ) → kind < 11 → Listed (up_to net b) kind (blocks_in (of_no lists kind))
 
-  pub kind-low : (kind : ℕ) → kind < 11 → get_or counts kind 0 ≤ b
-  kind-low kind lk = omega (arith, (h kind lk).count_is, count_bound (is_kind_no rows kind) b)
+-- none has a block
+pub sorting_none : (net : Net) (none : Blocks) → none.count ≡ 0 → Sorting net 0 (replicate 11 none)
+sorting_none net none e =
+    record {
+      long = refl;
+      few = λ kind h. rw (get_or-replicate {A = Blocks} 11 kind none (record { count = 0; blocks = [] }) h) (omega arith);
+      listed = λ kind h. rw (get_or-replicate {A = Blocks} 11 kind none (record { count = 0; blocks = [] }) h, e) (listed-none net kind);
+    }
 
-  pub sorted_more : x < 11 → Kinds rows (b + 1) (set counts x (k + 1)) (set lists (x * 64 + k) b)
-  sorted_more lx kind lk = by (ℕ_discrete kind x)
-    where
-      there : (kind j : ℕ) → kind < 11 → j < get_or counts kind 0 → (kind ≡ x → j ≡ k → ⊥) → in_kind (set lists (x * 64 + k) b) kind j ≡ in_kind lists kind j
-      there kind j l lj apart =
-          get_or-set_other lists (x * 64 + k) (kind * 64 + j) b 0 (λ e. off kind j x k (omega (arith, kind-low kind l)) (omega (arith, kind-low x lx)) e apart)
-        where
-          off : (p i q j : ℕ) → i < 64 → j < 64 → p * 64 + i ≡ q * 64 + j → (p ≡ q → i ≡ j → ⊥) → ⊥
-          off p i q j li lj e n = n (omega arith) (omega arith)
+-- block b has been put at the end of its kind's list
+pub sorting_more : (net : Net) (b : ℕ) (lists : List Blocks) (list : Blocks) → kind_no net b < 11 → Sorting net b lists → list.count ≡ (of_no lists (kind_no net b)).count + 1
+    → blocks_in list ≡ blocks_in (of_no lists (kind_no net b)) ++ b ∷ [] → Sorting net (b + 1) (set lists (kind_no net b) list)
+sorting_more net b lists list low s count put =
+    record { long = length-set lists (kind_no net b) list ∙ s.long; few = λ kind h. (by kind h (ℕ_discrete kind x)).0; listed = λ kind h. (by kind h (ℕ_discrete kind x)).1 }
+  where
+    x : ℕ
+    x = kind_no net b
 
-      by : Dec (kind ≡ x) → Listed rows (b + 1) kind (get_or (set counts x (k + 1)) kind 0) (in_kind (set lists (x * 64 + k) b) kind)
-      by (yes e) =
-          rw (e, get_or-set_same counts x (k + 1) 0 (omega arith))
-          (listed_next rows x b k (in_kind lists x) (in_kind (set lists (x * 64 + k) b) x) (h x lx) (λ j lj. there x j lx lj (λ z w. omega arith)) (eq-eqb x x refl)
-          (get_or-set_same lists (x * 64 + k) b 0 (omega (arith, kind-low x lx))))
-      by (no n) =
-          rw (get_or-set_other counts x kind (k + 1) 0 n)
-          (listed_skip rows kind b (get_or counts kind 0) (in_kind lists kind) (in_kind (set lists (x * 64 + k) b) kind) (h kind lk) (λ j lj. there kind j lk lj (λ z w. n z)) (ne_eqb x kind (λ z. n (sym z))))
+    by : (kind : ℕ) → kind < 11 → Dec (kind ≡ x)
+        → ((of_no (set lists (kind_no net b) list) kind).count ≤ b + 1) × Listed (up_to net (b + 1)) kind (blocks_in (of_no (set lists (kind_no net b) list) kind))
+    by kind h (yes z) =
+        rw (z, get_or-set_same lists (kind_no net b) list (record { count = 0; blocks = [] }) (omega (arith, s.long)), put)
+        (omega (arith, count, s.few (kind_no net b) low), listed_next net (kind_no net b) b _ (s.listed (kind_no net b) low) (eq-eqb (kind_no net b) (kind_no net b) refl))
+    by kind h (no z) =
+        rw (get_or-set_other lists (kind_no net b) kind list (record { count = 0; blocks = [] }) z)
+        (omega (arith, s.few kind h), listed_skip net kind b _ (s.listed kind h) (ne_eqb (kind_no net b) kind (λ e. z (sym e))))
 
-pub sorted_none : (rows lists : List ℕ) → Kinds rows 0 (replicate 11 0) lists
-sorted_none rows lists kind lk = rw (get_or-replicate {A = ℕ} 11 kind 0 0 lk) (listed-none rows kind (in_kind lists kind))
-
--- the same list under another reading
-pub listed_as : (rows : List ℕ) (n kind count : ℕ) (at at' : ℕ → ℕ) → ((k : ℕ) → at' k ≡ at k) → Listed rows n kind count at → Listed rows n kind count at'
-listed_as rows n kind count at at' same l = record { count_is = l.count_is; each = λ k h. rw (same k) (l.each k h) }
-
--- the sources and the sinks
-pub sources_of : (rows : List ℕ) (n : ℕ) (counts lists : List ℕ) → Kinds rows n counts lists → Listed rows n 0 (get_or counts 0 0) (λ k. get_or lists k 0)
-sources_of rows n counts lists h =
-    listed_as rows n 0 (get_or counts 0 0) (in_kind lists 0) (λ k. get_or lists k 0) (λ k. let e : k ≡ 0 * 64 + k = omega arith in ap (λ (x : ℕ). get_or lists x 0) e) (h 0 (omega arith))
-
-pub sinks_of : (rows : List ℕ) (n : ℕ) (counts lists : List ℕ) → Kinds rows n counts lists → Listed rows n 1 (get_or counts 1 0) (λ k. get_or lists (64 + k) 0)
-sinks_of rows n counts lists h =
-    listed_as rows n 1 (get_or counts 1 0) (in_kind lists 1) (λ k. get_or lists (64 + k) 0) (λ k. let e : 64 + k ≡ 1 * 64 + k = omega arith in ap (λ (x : ℕ). get_or lists x 0) e) (h 1 (omega arith))
-
--- ## A list of blocks among rows
-
-module _ (rows : List ℕ) (kind count : ℕ) (at : ℕ → ℕ) (a : Among rows kind count at) where
-  pub among_few : count ≤ 64
-  among_few = listed-few rows a.size kind count at a.rowed a.listed
-
-  pub among_block : (k : ℕ) → k < count → at k < a.size
-  among_block k h = (a.listed.each k h).0
-
-  pub among_kind : (k : ℕ) → k < count → kind_no rows (at k) ≡ kind
-  among_kind k h = eqb-true (kind_no rows (at k)) kind (a.listed.each k h).1
-
-  pub among_number : (k : ℕ) → k < count → count_below (is_kind_no rows kind) (at k) ≡ k
-  among_number k h = (a.listed.each k h).2
-
-  -- two of the list are two blocks
-  pub among_apart : (j k : ℕ) → j < count → k < count → at j ≡ at k → j ≡ k
-  among_apart j k lj lk e = sym (among_number j lj) ∙ ap (count_below (is_kind_no rows kind)) e ∙ among_number k lk
+-- all blocks of the net
+pub sorting_all : (net : Net) (lists : List Blocks) → net.size ≤ 64 → Sorting net net.size lists → Kinds net (record { by_kind = lists })
+sorting_all net lists small s = record { few = λ kind h. omega (arith, s.few kind h); listed = s.listed }

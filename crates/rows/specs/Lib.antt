@@ -1,4 +1,3 @@
--- Working definitions: a net as rows, and the tests of states and ends over rows.
+-- Working definitions: which blocks rest, and streams and masks by the blocks' own numbers.
 pub mod Flat
 pub mod Ends
-pub mod Checks

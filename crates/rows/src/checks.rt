@@ -1,63 +1,61 @@
 // The tests before a step: the state's shape, the streams' ends.
-ghost use Rattle.std.specs.Prelude.{◌≡◌, ◌&&◌, ℕ, ◌<◌, eqb, length};
+ghost use Rattle.std.specs.Prelude.{◌≡◌, ◌&&◌, ◌<◌, eqb, length};
+ghost use Rattle.blocks.specs.States.{reg_in};
+ghost use Rattle.cycles.specs.State.{entry_shape, shape_ok};
 ghost use Rattle.cycles.specs.Streams.{ascend};
 ghost use Rattle.passes.specs.Rows.{Rowed};
-ghost use Rattle.trace.specs.Numbers.{given};
-ghost use Rattle.rows.specs.Checks.{entry_no, shape_no};
+ghost use Rattle.rows.specs.Ends.{read};
 
-use blocks::Reg;
-use cycles::State;
+use blocks::{Net, Reg, State};
+use trace::numbers::Numbers;
 
-// One entry of a state: a block's registers in shape, or zero ones beyond the n blocks.
-fn entry_ok(b: usize, n: usize, rows: &[u8; 768], reg: Reg) -> bool
-    requires { Rowed rows.now n }
-    ensures { result ≡ entry_no rows.now n b reg }
+// The most cycles that a state counts.
+pub const CYCLE_LIMIT: u32 = 1048576;
+
+// One entry of a state: a block's registers in shape, or zero ones beyond the net's blocks.
+fn entry_ok(b: usize, state: &State, net: &Net) -> bool
+    requires rowed { Rowed net.now }
+    requires b_bound { b < 64 }
+    ensures { result ≡ entry_shape net.now state.now b }
 {
-    if b < n {
-        let row = b * 12;
-        return blocks::shape::reg_ok(rows[row + 10], rows[row + 11], reg);
+    let reg = state.reg(b);
+    if b < net.size as usize {
+        let block = &net.blocks[b];
+        return blocks::shape::reg_ok(block.kind, block.m, reg);
     }
-    blocks::shape::zero_reg(reg)
+    reg == Reg::ZERO
 }
 
 // The state is in shape.
-pub fn shape_ok(state: State, n: usize, rows: &[u8; 768]) -> bool
-    requires { Rowed rows.now n }
-    ensures { result ≡ shape_no rows.now n state }
+pub fn shape_ok(state: &State, net: &Net) -> bool
+    requires { Rowed net.now }
+    ensures { result ≡ shape_ok net.now state.now }
 {
-    if 1048576 < state.count {
+    if CYCLE_LIMIT < state.count {
         return false;
     }
-    let mut b: usize = 0;
-    while b < 64 {
-        let reg = Reg {
-            word: state.words[b],
-            marks: state.marks[b],
-        };
-        if !entry_ok(b, n, rows, reg) {
+    for b in 0..64 {
+        if !entry_ok(b, state, net) {
             return false;
         }
-        b += 1;
     }
     true
 }
 
 // There are count ends, which do not descend and do not pass `long` words.
-pub fn ends_fit(count: usize, long: usize, end_bytes: &[u8], ends: &[u32]) -> bool
-    ensures { result ≡ (eqb (length (given end_bytes.now ends.now)) count && ascend 0 long (given end_bytes.now ends.now)) }
+pub fn ends_fit(count: usize, long: usize, ends: Numbers) -> bool
+    ensures { let list = read ends.entry in result ≡ (eqb (length list) count && ascend 0 long list) }
 {
-    if trace::numbers::numbers_in(end_bytes, ends) != count {
+    if ends.len() != count {
         return false;
     }
-    let mut low: usize = 0;
-    let mut i: usize = 0;
-    while i < count {
-        let end = trace::numbers::number_in(end_bytes, ends, i) as usize;
+    let mut low = 0;
+    for i in 0..count {
+        let end = ends.at(i) as usize;
         if end < low {
             return false;
         }
         low = end;
-        i += 1;
     }
     low <= long
 }

@@ -1,92 +1,61 @@
-// A net as flat rows, its blocks by kind and along the orders of the passes: made once for a step or a run.
-ghost use Rattle.std.specs.Prelude.{◌≡◌, ℕ, ◌≤◌, ◌<◌, length};
-ghost use Rattle.passes.specs.Rows.{Rowed, Order, Whole, Along, Kinds};
-ghost use Rattle.rows.specs.Flat.{RowPut, Flat, rests_by};
+// The blocks of a net by kind and along the orders of the passes: made once for a step or a run.
+ghost use Rattle.std.specs.Prelude.{◌≡◌, ◌≤◌};
+ghost use Rattle.nets.specs.Promises.{Promises};
+ghost use Rattle.passes.specs.Rows.{blocks_in, Rowed, Order, Whole, Along, Kinds};
+ghost use Rattle.rows.specs.Flat.{rests_by, Ordered};
 
-use crate::{Blocks, Sorted};
-use nets::{Block, Net};
+use crate::{Blocks, Laid, Sorted};
+use blocks::{Kind, Net};
+use nets::Plan;
 
-// Writes one block's row: ten ports, kind and m.
-fn put_row(b: usize, block: Block, rows: &mut [u8; 768])
-    requires b_bound { b < 64 }
-    requires rows_len { length rows.old ≡ 768 }
-    ensures { RowPut block b rows.old rows.new }
-{
-    let row = b * 12;
-    rows[row + 10] = block.kind;
-    rows[row + 11] = block.m;
-    let mut i: usize = 0;
-    while i < 10 {
-        rows[row + i] = block.ports[i];
-        i += 1;
-    }
-}
-
-// Writes the rows and values of the net's blocks.
-pub fn flatten(net: Net, n: usize, rows: &mut [u8; 768], values: &mut [u32; 64])
-    requires n_bound { n ≤ 64 }
-    requires rows_len { length rows.old ≡ 768 }
-    requires values_len { length values.old ≡ 64 }
-    ensures { Flat net n rows.new values.new }
-{
-    let mut b: usize = 0;
-    while b < n {
-        let block = net.blocks[b];
-        values[b] = block.value;
-        put_row(b, block, rows);
-        b += 1;
-    }
-}
-
-// The first n blocks by kind.
-pub fn sort_kinds(n: usize, rows: &[u8; 768]) -> Sorted
-    requires { Rowed rows.now n }
-    ensures { Kinds rows.now n result.counts result.lists }
-{
-    let mut counts = [0usize; 11];
-    let mut lists = [0u8; 704];
-    let mut b: usize = 0;
-    while b < n {
-        let kind = rows[b * 12 + 10] as usize;
-        let k = counts[kind];
-        lists[kind * 64 + k] = b as u8;
-        counts[kind] = k + 1;
-        b += 1;
-    }
-    Sorted { counts, lists }
-}
+// How many kinds there are.
+const KINDS: usize = 11;
 
 // Whether blocks of a kind rest in the pass backward, or forward.
 fn rests(control: bool, kind: u8) -> bool
     ensures { result ≡ rests_by control kind }
 {
-    if kind <= 1 {
-        return true;
+    if kind <= Kind::Sink as u8 {
+        true
+    } else if control {
+        kind == Kind::Control as u8
+    } else {
+        kind == Kind::Buffer as u8 || kind == Kind::FullBuffer as u8
     }
-    if control {
-        return kind == 10;
-    }
-    if kind == 8 {
-        return true;
-    }
-    kind == 9
 }
 
-// The blocks that do not rest, along an order of all n. Each is stored where the next one goes, and the place moves on only where it does not rest.
-pub fn pick(control: bool, n: usize, order: &[u8; 64], rows: &[u8; 768]) -> Blocks
-    requires rowed { Rowed rows.now n }
-    requires order { Order n order.now }
-    ensures along { Whole rows.now n (rests_by control) order.now → Along rows.now n (rests_by control) result.count result.blocks }
+// The blocks that do not rest, along an order of all.
+fn pick(control: bool, order: &[u8; 64], net: &Net) -> Blocks
+    requires rowed { Rowed net.now }
+    requires order { Order net.now.size order.now }
+    ensures along { Whole net.now (rests_by control) order.now → Along net.now (rests_by control) (blocks_in result) }
     ensures count_bound { result.count ≤ 64 }
 {
-    let mut blocks = [0u8; 64];
-    let mut count: usize = 0;
-    let mut i: usize = 0;
-    while i < n {
+    let mut picked = Blocks::NONE;
+    for i in 0..net.size as usize {
         let b = order[i];
-        blocks[count] = b;
-        count = count + !rests(control, rows[b as usize * 12 + 10]) as usize;
-        i += 1;
+        picked.put(b, !rests(control, net.blocks[b as usize].kind));
     }
-    Blocks { count, blocks }
+    picked
+}
+
+// An accepted net laid out: its blocks sorted by kind, and by its plan those that do not rest.
+pub fn lay_out<'a>(net: &'a Net, plan: &Plan) -> Laid<'a>
+    requires { Promises net.now plan.now }
+    ensures same_net { result.net.now ≡ net.now }
+    ensures ordered { Ordered result }
+{
+    let mut sorted = Sorted {
+        by_kind: [Blocks::NONE; KINDS],
+    };
+    for b in 0..net.size {
+        let kind = net.blocks[b as usize].kind;
+        sorted.by_kind[kind as usize].put(b, true);
+    }
+    Laid {
+        net,
+        sorted,
+        ahead: pick(false, &plan.data, net),
+        behind: pick(true, &plan.control, net),
+    }
 }

@@ -1,19 +1,31 @@
-// A net laid out for stepping: flat rows, the blocks by kind, the orders without the blocks that rest; and the tests of states and ends over them.
+// A net laid out for stepping: its blocks by kind, and the orders without the blocks that rest; and the tests of states and ends.
 #![tactic(auto)]
+
+ghost use Rattle.std.specs.Prelude.{◌≤◌};
+ghost use Rattle.passes.specs.Rows.{Rowed, Kinds};
+
+use blocks::Net;
+pub use passes::{Blocks, Sorted};
+use trace::numbers::Numbers;
 
 pub mod checks;
 pub mod flat;
 
-// Some blocks in an order: the first `count` entries.
+// The words of all sources, one source's after the other's, and where each source's end.
 #[derive(Clone, Copy)]
-pub struct Blocks {
-    pub count: usize,
-    pub blocks: [u8; 64],
+pub struct Streams<'a> {
+    pub words: Numbers<'a>,
+    pub ends: Numbers<'a>,
 }
 
-// The blocks of each kind, in block order: how many, and from 64 times the kind on which ones.
+// A net with its blocks by kind, and those that do not rest in the pass ahead and in the pass back, along the orders of the passes.
 #[derive(Clone, Copy)]
-pub struct Sorted {
-    pub counts: [usize; 11],
-    pub lists: [u8; 704],
+pub struct Laid<'a> {
+    pub net: &'a Net,
+    pub sorted: Sorted,
+    pub ahead: Blocks,
+    pub behind: Blocks,
+    ghost rowed: { Rowed net.now },
+    ghost kinds: { Kinds net.now sorted },
+    ghost few: { (ahead.count ≤ 64) × (behind.count ≤ 64) },
 }

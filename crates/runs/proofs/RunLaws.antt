@@ -9,8 +9,8 @@ use native.Mathlib.Numerals.{add-one}
 use borrow.Author.Tests.{eq-eqb, ne_eqb, lt-ltb, le-ltb}
 use lib.Dec.{eqb, ltb}
 use lib.ListN.{length, length-append}
-use Rattle.nets.specs.declared.Net.{Net}
-use Rattle.cycles.specs.declared.State.{State}
+use Rattle.blocks.specs.declared.Net.{Net}
+use Rattle.blocks.specs.declared.State.{State}
 use Rattle.cycles.specs.declared.Stepped.{Stepped}
 use Rattle.runs.proofs.Induction.{from_on}
 use Rattle.runs.specs.Runs.{Ran, begun, records_in, onward, step_at, ran_for}

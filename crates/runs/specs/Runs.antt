@@ -1,13 +1,16 @@
 -- What a run answers (document 01, "Runs and the trace"): `step_of` cycle by cycle, each cycle's records after the last, until all cycles are done or a cycle's records exceed
 -- the room.
 -- Assumes nothing.
-use Rattle.std.specs.Prelude.{ℕ, zero, suc, ◌+◌, ◌*◌, ◌/◌, ◌%◌, cond, List, [], ◌++◌, eqb, ltb, length, get_or, drop}
-use Rattle.nets.specs.declared.Net.{Net}
+use Rattle.std.specs.Prelude.{ℕ, zero, suc, ◌+◌, ◌*◌, ◌/◌, ◌%◌, cond, List, [], ◌++◌, eqb, ltb, length, get_or, drop, ◌≤◌, ◌≡◌}
+use Rattle.blocks.specs.Refusals.{refusal_number}
+use Rattle.blocks.specs.declared.Net.{Net}
 use Rattle.nets.proofs.Decided.{accepted}
 use Rattle.cycles.specs.Step.{refusal_by}
-use Rattle.cycles.specs.declared.State.{State}
+use Rattle.blocks.specs.declared.Refusal.{Refusal}
+use Rattle.blocks.specs.declared.State.{State}
 use Rattle.cycles.specs.declared.Stepped.{Stepped}
 use Rattle.sim.specs.Calls.{step_of}
+use Rattle.sim.specs.Laid.{tested_no}
 use Rattle.trace.specs.Records.{records_below, trace_of}
 use Rattle.runs.specs.declared.Run.{Run}
 
@@ -62,3 +65,15 @@ written records trace = trace_of records ++ drop (8 * length records) trace
 
 unfoldable pub trace_after : Net → State → List ℕ → List ℕ → List ℕ → List ℕ → List ℕ
 trace_after net s words ends masks trace = written (ran_of net s words ends masks (length trace)).records trace
+
+-- no test fails, and there are masks for n cycles
+pub record Counted (net : Net) (s : State) (words ends masks : List ℕ) (n : ℕ) : Type 0 where
+  pub earned : run_refusal net s words ends masks ≡ 0
+  pub tested : tested_no net s words ends ≡ 0
+  pub two_each : length masks ≡ 2 * n
+  pub in_range : s.count + n ≤ 1048576
+
+-- a test fails, and this is its refusal
+pub record Denied (net : Net) (s : State) (words ends masks : List ℕ) (refusal : Refusal) : Type 0 where
+  pub earned : run_refusal net s words ends masks ≡ refusal_number refusal
+  pub fails : refusal_number refusal ≡ 0 → ⊥

@@ -1,141 +1,90 @@
 // Runs of many cycles.
-ghost use Rattle.std.specs.Prelude.{◌≡◌, true, ◌+◌, ◌*◌, ◌≤◌, length};
-ghost use Rattle.nets.specs.Promises.{Promises};
+ghost use Rattle.std.specs.Prelude.{◌≡◌, true, ◌+◌, ◌*◌, ◌≤◌, length, MatchResult};
+ghost use Rattle.blocks.specs.Refusals.{refusal_number};
 ghost use Rattle.nets.proofs.Decided.{accepted};
-ghost use Rattle.cycles.specs.Streams.{ends_fit};
-ghost use Rattle.cycles.specs.State.{shape_ok};
-ghost use Rattle.passes.specs.Rows.{Kinds};
-ghost use Rattle.rows.specs.Flat.{Flat};
+ghost use Rattle.rows.specs.Ends.{read};
+ghost use Rattle.sim.specs.Laid.{Given};
 ghost use Rattle.trace.specs.Numbers.{given};
-ghost use Rattle.runs.specs.Runs.{begun, ran_for, answer_of, written, run_of, trace_after};
+ghost use Rattle.runs.specs.Runs.{Counted, Denied, begun, ran_for, answer_of, written, run_of, trace_after};
 
 use crate::Run;
 use advance::cycle::cycle;
+use blocks::{Refusal, Sig};
 use cycles::State;
-use nets::{Net, Plan};
-use rows::Sorted;
-use rows::flat::{pick, sort_kinds};
-use trace::numbers::{number_in, numbers_in};
+use nets::Net;
+use rows::checks::CYCLE_LIMIT;
+use rows::flat::lay_out;
+use rows::{Laid, Streams};
+use sim::cycle::tested;
+use trace::numbers::Numbers;
+use trace::records::RECORD_BYTES;
 
 // What is left of an odd count of masks, by twos.
 const ODD: usize = 1;
 
-// The number of a verdict that accepts the net.
-const ACCEPTED: u8 = 0;
-
-// The answer of a run that is not refused.
-fn answer(ending: u8, cycles: u32, records: u32, state: State) -> Run
-    ensures { result ≡ record { refusal = 0; ending = ending; cycles = cycles; records = records; state = state } }
+// The n cycles of an accepted net that is laid out, from a state and over streams that have passed the tests. Each cycle gets the part of the trace after the last one's
+// records.
+fn run_cycles(
+    laid: &Laid,
+    streams: Streams,
+    masks: Numbers,
+    n: usize,
+    mut state: State,
+    trace: &mut [u8],
+) -> Run
+    requires net_value { accepted laid.now.net.now ≡ true }
+    requires given { Given laid.now.net.now state (read streams.words) (read streams.ends) laid.now }
+    requires in_range { state.count + n ≤ 1048576 }
+    requires masks_len { length (read masks) ≡ 2 * n }
+    ensures value { result ≡ answer_of 0 (ran_for laid.now.net.now state (read streams.entry.words) (read streams.entry.ends) (read masks.entry) (length trace.old) n) }
+    ensures trace_after { trace.new ≡ written (ran_for laid.now.net.now state (read streams.entry.words) (read streams.entry.ends) (read masks.entry) (length trace.old) n).records trace.old }
 {
+    let mut signals = [Sig::NOTHING; 128];
+    let mut taken = [false; 128];
+    let mut list = [0u64; 128];
+    let mut used = 0;
+    for i in 0..n {
+        let offer = masks.at(2 * i);
+        let ready = masks.at(2 * i + 1);
+        let went = cycle(
+            laid,
+            streams,
+            offer,
+            ready,
+            &mut state,
+            &mut signals,
+            &mut taken,
+            &mut list,
+            &mut trace[RECORD_BYTES * used..],
+        );
+        match went {
+            None => {
+                return Run {
+                    refusal: 0,
+                    ending: 1,
+                    cycles: i as u32,
+                    records: used as u32,
+                    state,
+                };
+            }
+            Some(k) => used += k,
+        }
+    }
     Run {
         refusal: 0,
-        ending,
-        cycles,
-        records,
+        ending: 0,
+        cycles: n as u32,
+        records: used as u32,
         state,
     }
 }
 
-// The n cycles of an accepted net, whose rows and lists are made, over streams that fit. Each cycle gets the part of the trace after the last one's records.
-fn run_cycles(
-    net: Net,
-    plan: Plan,
-    sorted: Sorted,
-    rows: &[u8; 768],
-    values: &[u32; 64],
-    state: State,
-    bytes: &[u8],
-    stream: &[u32],
-    end_bytes: &[u8],
-    ends: &[u32],
-    mask_bytes: &[u8],
-    masks: &[u32],
-    n: usize,
-    trace: &mut [u8],
-) -> Run
-    requires promises { Promises net plan }
-    requires net_value { accepted net ≡ true }
-    requires flat { Flat net net.size rows.now values.now }
-    requires kinds { Kinds rows.now net.size sorted.counts sorted.lists }
-    requires state_value { (shape_ok net state ≡ true) × (state.count + n ≤ 1048576) }
-    requires ends_value { ends_fit net (given bytes.now stream.now) (given end_bytes.now ends.now) ≡ true }
-    requires masks_len { length (given mask_bytes.now masks.now) ≡ 2 * n }
-    ensures value { result ≡ answer_of 0 (ran_for net state (given bytes.now stream.now) (given end_bytes.now ends.now) (given mask_bytes.now masks.now) (length trace.old) n) }
-    ensures trace_after { trace.new ≡ written (ran_for net state (given bytes.now stream.now) (given end_bytes.now ends.now) (given mask_bytes.now masks.now) (length trace.old) n).records trace.old }
-{
-    let size = net.size as usize;
-    let data = plan.data;
-    let control = plan.control;
-    let ahead = pick(false, size, &data, rows);
-    let behind = pick(true, size, &control, rows);
-    let ahead_count = ahead.count;
-    let forth = ahead.blocks;
-    let back_count = behind.count;
-    let rear = behind.blocks;
-    let counts = sorted.counts;
-    let lists = sorted.lists;
-    let mut words = state.words;
-    let mut marks = state.marks;
-    let mut valid = [false; 128];
-    let mut word = [0u32; 128];
-    let mut taken = [false; 128];
-    let mut list = [0u64; 128];
-    let mut used: usize = 0;
-    let mut i: usize = 0;
-    while i < n {
-        let offer = number_in(mask_bytes, masks, 2 * i);
-        let ready = number_in(mask_bytes, masks, 2 * i + 1);
-        let k = cycle(
-            size,
-            net.channels as usize,
-            ahead_count,
-            &forth,
-            back_count,
-            &rear,
-            &counts,
-            &lists,
-            rows,
-            values,
-            bytes,
-            stream,
-            end_bytes,
-            ends,
-            offer,
-            ready,
-            state.count + i as u32,
-            &mut words,
-            &mut marks,
-            &mut valid,
-            &mut word,
-            &mut taken,
-            &mut list,
-            &mut trace[8 * used..],
-        );
-        if k == 129 {
-            let stopped = State {
-                count: state.count + i as u32,
-                words,
-                marks,
-            };
-            return answer(1, i as u32, used as u32, stopped);
-        }
-        used += k;
-        i += 1;
-    }
-    let after = State {
-        count: state.count + i as u32,
-        words,
-        marks,
-    };
-    answer(0, i as u32, used as u32, after)
-}
-
 // A refused run: the state handed in, nothing done.
-fn refused(refusal: u8, state: State) -> Run
-    ensures { result ≡ answer_of refusal (begun state) }
+fn refused(refusal: Refusal, state: State) -> Run
+    ensures { result ≡ answer_of (refusal_number refusal) (begun state) }
 {
     Run {
-        refusal,
+        refusal: refusal as u8,
         ending: 0,
         cycles: 0,
         records: 0,
@@ -143,88 +92,53 @@ fn refused(refusal: u8, state: State) -> Run
     }
 }
 
-// A run of an accepted net: refusals 13, 14, 15 and 16, in that order.
-fn run_accepted(
-    net: Net,
-    plan: Plan,
-    state: State,
-    bytes: &[u8],
-    stream: &[u32],
-    end_bytes: &[u8],
-    ends: &[u32],
-    mask_bytes: &[u8],
-    masks: &[u32],
-    trace: &mut [u8],
-) -> Run
-    requires promises { Promises net plan }
-    requires net_value { accepted net ≡ true }
-    ensures value { result ≡ run_of net state (given bytes.now stream.now) (given end_bytes.now ends.now) (given mask_bytes.now masks.now) (length trace.old) }
-    ensures trace_after { trace.new ≡ trace_after net state (given bytes.now stream.now) (given end_bytes.now ends.now) (given mask_bytes.now masks.now) trace.old }
+// How many cycles a run of an accepted net that is laid out has, refused in this order: 13 (the state), 14 (the ends), 15 (an odd list of masks), 16 (the count).
+fn cycles_of(laid: &Laid, state: &State, streams: Streams, masks: Numbers) -> Result<usize, Refusal>
+    requires { accepted laid.now.net.now ≡ true }
+    ensures { let net = laid.now.net.now in let words = read streams.entry.words in let ends = read streams.entry.ends in MatchResult result (Counted net state.now words ends (read masks.entry)) (Denied net state.now words ends (read masks.entry)) }
 {
-    let n = net.size as usize;
-    let mut rows = [0u8; 768];
-    let mut values = [0u32; 64];
-    rows::flat::flatten(net, n, &mut rows, &mut values);
-    if !rows::checks::shape_ok(state, n, &rows) {
-        return refused(13, state);
-    }
-    let sorted = sort_kinds(n, &rows);
-    if !rows::checks::ends_fit(sorted.counts[0], numbers_in(bytes, stream), end_bytes, ends) {
-        return refused(14, state);
-    }
-    let count = numbers_in(mask_bytes, masks);
+    tested(laid, state, streams)?;
+    let count = masks.len();
     if count % 2 == ODD {
-        return refused(15, state);
+        return Err(Refusal::Masks);
     }
-    if 1048576 < state.count as usize + count / 2 {
-        return refused(16, state);
+    let n = count / 2;
+    if state.count as usize + n > CYCLE_LIMIT as usize {
+        return Err(Refusal::Cycles);
     }
-    run_cycles(
-        net,
-        plan,
-        sorted,
-        &rows,
-        &values,
-        state,
-        bytes,
-        stream,
-        end_bytes,
-        ends,
-        mask_bytes,
-        masks,
-        count / 2,
-        trace,
-    )
+    Ok(n)
 }
 
-// A run whose words, ends and masks are given as bytes, 4 to a number, and then as lists: callers give one of the two and leave the other empty. Of bytes that are not a multiple of
-// 4 the last 1 to 3 are dropped: a caller that has to refuse them tests the length first.
+// A run whose words, ends and masks are given as bytes or as lists. Of bytes that are not a multiple of 4 the last 1 to 3 are dropped: a caller that has to refuse them tests
+// the length first.
+// Never made a part of its caller, whose own stack would then lie below that of reading a form.
+#[inline(never)]
 pub fn run_given(
     net: Net,
     state: State,
-    bytes: &[u8],
-    stream: &[u32],
-    end_bytes: &[u8],
-    ends: &[u32],
-    mask_bytes: &[u8],
-    masks: &[u32],
+    words: Numbers,
+    ends: Numbers,
+    masks: Numbers,
     trace: &mut [u8],
 ) -> Run
-    ensures value { result ≡ run_of net state (given bytes.now stream.now) (given end_bytes.now ends.now) (given mask_bytes.now masks.now) (length trace.old) }
-    ensures trace_after { trace.new ≡ trace_after net state (given bytes.now stream.now) (given end_bytes.now ends.now) (given mask_bytes.now masks.now) trace.old }
+    ensures value { result ≡ run_of net state (given words.entry.bytes.now words.entry.list.now) (given ends.entry.bytes.now ends.entry.list.now) (given masks.entry.bytes.now masks.entry.list.now) (length trace.old) }
+    ensures trace_after { trace.new ≡ trace_after net state (given words.entry.bytes.now words.entry.list.now) (given ends.entry.bytes.now ends.entry.list.now) (given masks.entry.bytes.now masks.entry.list.now) trace.old }
 {
-    let plan = nets::plan_of(net);
-    let verdict = plan.verdict;
-    if nets::number(verdict) != ACCEPTED {
-        return refused(12, state);
+    let Ok(plan) = nets::plan_of(net) else {
+        return refused(Refusal::Net, state);
+    };
+    let streams = Streams { words, ends };
+    let laid = lay_out(&net, &plan);
+    match cycles_of(&laid, &state, streams, masks) {
+        Ok(n) => run_cycles(&laid, streams, masks, n, state, trace),
+        Err(refusal) => refused(refusal, state),
     }
-    run_accepted(
-        net, plan, state, bytes, stream, end_bytes, ends, mask_bytes, masks, trace,
-    )
 }
 
 // Many cycles, each delivery a record of 8 bytes in the trace. The masks are offer and ready of each cycle. Refused in this order: 12 (the net), 13 (the state), 14 (the
 // ends), 15 (an odd list of masks), 16 (the count).
+// stays: the parameters of a public call stay as they were.
+#[tactic(auto, unfolding(trace::specs::Numbers::numbers_of))]
 pub fn run(
     net: Net,
     state: State,
@@ -236,5 +150,12 @@ pub fn run(
     ensures value { result ≡ run_of net state words.now ends.now masks.now (length trace.old) }
     ensures trace_after { trace.new ≡ trace_after net state words.now ends.now masks.now trace.old }
 {
-    run_given(net, state, b"", words, b"", ends, b"", masks, trace)
+    run_given(
+        net,
+        state,
+        Numbers::of_list(words),
+        Numbers::of_list(ends),
+        Numbers::of_list(masks),
+        trace,
+    )
 }

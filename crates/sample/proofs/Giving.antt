@@ -9,11 +9,11 @@ use lib.ListN.{length, take}
 use Rattle.blocks.proofs.Folds.{and_1}
 use Rattle.nets.specs.Net.{kind_count}
 use Rattle.nets.specs.Verdict.{Joined}
-use Rattle.nets.specs.declared.Net.{Net}
+use Rattle.blocks.specs.declared.Net.{Net}
 use Rattle.forms.specs.Calls.{Loaded}
 use Rattle.stored.specs.declared.Loading.{Loading}
 use Rattle.cycles.proofs.States.{length-tab}
-use Rattle.cycles.specs.declared.State.{State}
+use Rattle.blocks.specs.declared.State.{State}
 use Rattle.sim.specs.Calls.{fresh_of}
 use Rattle.runs.specs.Runs.{run_of, trace_after}
 use Rattle.runs.specs.declared.Run.{Run}

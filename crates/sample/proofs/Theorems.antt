@@ -13,7 +13,7 @@ use Rattle.blocks.specs.Folds.{all_below}
 use Rattle.blocks.proofs.Folds.{and_both, and_1, and_2, clash, all_at, count_step}
 use Rattle.nets.specs.Net.{is_kind, kind_count, number_among}
 use Rattle.nets.specs.Verdict.{Joined}
-use Rattle.nets.specs.declared.Net.{Net}
+use Rattle.blocks.specs.declared.Net.{Net}
 use Rattle.cycles.specs.State.{tab}
 use Rattle.cycles.specs.Streams.{ascend, ends_fit, end_before, stream_of}
 use Rattle.cycles.proofs.States.{get_d_tab}

@@ -3,7 +3,7 @@
 -- Assumes nothing.
 use Rattle.std.specs.Prelude.{ℕ, ◌+◌, ◌*◌, ◌%◌, ◌≡◌, cond, List, eqb, length, replicate}
 use Rattle.nets.specs.Net.{kind_count}
-use Rattle.nets.specs.declared.Net.{Net}
+use Rattle.blocks.specs.declared.Net.{Net}
 use Rattle.forms.specs.Calls.{Loaded}
 use Rattle.stored.specs.declared.Loading.{Loading}
 use Rattle.cycles.specs.State.{tab}

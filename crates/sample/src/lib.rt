@@ -1,16 +1,16 @@
 // A sample run of a stored net, the one that netrun shows: 1, 2, 3 for every source, all masks set, 6 cycles.
 #![tactic(auto)]
 
-ghost use Rattle.std.specs.Prelude.{◌≡◌, ◌≤◌, ◌<◌, length};
-ghost use Rattle.blocks.specs.Folds.{one};
-ghost use Rattle.nets.specs.Net.{is_kind, kind_count};
+ghost use Rattle.std.specs.Prelude.{◌≡◌, length};
+ghost use Rattle.nets.specs.Net.{kind_count};
 ghost use Rattle.nets.specs.Verdict.{Joined};
 ghost use Rattle.sample.specs.Sample.{sample_words, ends_for, sample_run, sample_trace, SampledForm};
 
+use blocks::Kind;
 use nets::Net;
 use runs::Run;
 
-// What comes of a form: its refusal; or 0, the cycles done and the records in the trace.
+// What comes of a form: its refusal; or 0, the cycles done and the records in the trace. Its clause, `SampledForm`, says each field beside a refusal too.
 #[derive(Clone, Copy)]
 pub struct Sampled {
     pub refusal: u8,
@@ -23,10 +23,8 @@ pub fn one_two_three() -> [u32; 96]
     ensures { result ≡ sample_words }
 {
     let mut words = [0u32; 96];
-    let mut i: usize = 0;
-    while i < 96 {
-        words[i] = (i % 3) as u32 + 1;
-        i += 1;
+    for (i, word) in words.iter_mut().enumerate() {
+        *word = (i % 3) as u32 + 1;
     }
     words
 }
@@ -36,20 +34,10 @@ pub fn ends_of_three() -> [u32; 32]
     ensures { result ≡ ends_for 32 }
 {
     let mut ends = [0u32; 32];
-    let mut k: usize = 0;
-    while k < 32 {
-        ends[k] = 3 * k as u32 + 3;
-        k += 1;
+    for (k, end) in ends.iter_mut().enumerate() {
+        *end = 3 * k as u32 + 3;
     }
     ends
-}
-
-// 1 where block b of a net is a source, else 0.
-fn source_at(net: Net, b: usize) -> usize
-    requires { b < 64 }
-    ensures { result ≡ one (is_kind net 0 b) }
-{
-    if net.blocks[b].kind == 0 { 1 } else { 0 }
 }
 
 // How many sources an accepted net has.
@@ -57,14 +45,7 @@ pub fn count_sources(net: Net) -> usize
     requires { Joined net }
     ensures { result ≡ kind_count net 0 }
 {
-    let size = net.size as usize;
-    let mut k: usize = 0;
-    let mut b: usize = 0;
-    while b < size {
-        k += source_at(net, b);
-        b += 1;
-    }
-    k
+    nets::kind_count(Kind::Source, &net)
 }
 
 // The sample run of an accepted net from its fresh state.

@@ -10,17 +10,18 @@ use borrow.Author.Tests.{eq-eqb, ltb-true, leb-true}
 use lib.Dec.{eqb, leb, ltb}
 use lib.ListN.{length, get_or}
 use lib.Seq.{length-slice}
-use Rattle.blocks.specs.Folds.{bit, count_below}
+use Rattle.blocks.specs.Folds.{bit}
 use Rattle.blocks.specs.Kinds.{kind_of}
 use Rattle.blocks.specs.Ports.{inputs_of, outputs_of}
 use Rattle.blocks.specs.Signals.{full}
 use Rattle.blocks.specs.Equations.{offers, won, out_of}
+use Rattle.blocks.specs.declared.Net.{Net}
 use Rattle.blocks.specs.declared.Sig.{Sig}
 use Rattle.blocks.specs.declared.Reg.{Reg}
 use Rattle.blocks.proofs.Folds.{and_1, clash, or_cases, or_left}
 use Rattle.cycles.specs.Streams.{end_before}
 use Rattle.ports.specs.Places.{sig_at, port_at}
-use Rattle.passes.specs.Rows.{kind_no, m_no, base_no, outs_no, is_kind_no, rests_ahead, rests_back, Listed}
+use Rattle.passes.specs.Rows.{block_no, kind_no, m_no, outs_no, is_kind_no, rests_ahead, rests_back, Listed}
 use Rattle.passes.specs.Pass.{Holds}
 use Rattle.passes.specs.Passed.{ahead, back, Settled, AllSettled}
 use Rattle.rows.specs.Ends.{stream_at, mask_at, number_no, Fitting}
@@ -69,82 +70,105 @@ zero_or_one P p q zero h = p
 zero_or_one P p q (suc zero) h = q
 zero_or_one P p q (suc (suc j)) h = absurd (omega arith)
 
-module _ (rows values : List ℕ) (xs : ℕ → List ℕ) (mask : ℕ → Bool) (r : ℕ → Reg) (b : ℕ) (valid : List Bool) (word : List ℕ)
-    (h : Holds (ahead rows values xs mask r b) (sig_at valid word)) where
+module _ (net : Net) (xs : ℕ → List ℕ) (mask : ℕ → Bool) (r : ℕ → Reg) (b : ℕ) (signals : List Sig) (h : Holds (ahead net xs mask r b) (sig_at signals)) where
   abbrev m : ℕ
-  m = m_no rows b
+  m = m_no net b
 
   abbrev X : ℕ → Sig
-  X = sig_at valid word
+  X = sig_at signals
 
   -- the equation at the kind that the block has
-  at_kind : (k : ℕ) → kind_no rows b ≡ k → (o : ℕ) → o < outputs_of k m
-      → X (port_at rows (base_no b) (inputs_of k m + o)) ≡ out_of (kind_of k m (get_or values b 0) (xs b)) (mask b) (r b) (λ i. X (port_at rows (base_no b) i)) o
+  at_kind : (k : ℕ) → kind_no net b ≡ k → (o : ℕ) → o < outputs_of k m
+      → X (port_at (block_no net b) (inputs_of k m + o)) ≡ out_of (kind_of k m (block_no net b).value (xs b)) (mask b) (r b) (λ i. X (port_at (block_no net b) i)) o
   at_kind k e =
-      subst (λ (k : ℕ). (o : ℕ) → o < outputs_of k m → X (port_at rows (base_no b) (inputs_of k m + o)) ≡ out_of (kind_of k m (get_or values b 0) (xs b)) (mask b) (r b) (λ i. X (port_at rows (base_no b) i)) o)
+      subst (λ (k : ℕ). (o : ℕ) → o < outputs_of k m → X (port_at (block_no net b) (inputs_of k m + o)) ≡ out_of (kind_of k m (block_no net b).value (xs b)) (mask b) (r b) (λ i. X (port_at (block_no net b) i)) o)
       e h
 
-  valid_at_lem : (k : ℕ) → kind_no rows b ≡ k → (o : ℕ) → o < outputs_of k m
-      → get_or valid (port_at rows (base_no b) (inputs_of k m + o)) false ≡ (out_of (kind_of k m (get_or values b 0) (xs b)) (mask b) (r b) (λ i. X (port_at rows (base_no b) i)) o).valid
+  valid_at_lem : (k : ℕ) → kind_no net b ≡ k → (o : ℕ) → o < outputs_of k m
+      → (sig_at signals (port_at (block_no net b) (inputs_of k m + o))).valid ≡ (out_of (kind_of k m (block_no net b).value (xs b)) (mask b) (r b) (λ i. X (port_at (block_no net b) i)) o).valid
   valid_at_lem k e o l = ap (λ (s : Sig). s.valid) (at_kind k e o l)
 
-  settled : (kind_no rows b ≡ 0 → length (xs b) ≤ 4294967295) → Settled (kind_no rows b) m (r b) rows (base_no b) valid word
+  settled : (kind_no net b ≡ 0 → length (xs b) ≤ 4294967295) → Settled (block_no net b) (r b) signals
   settled few =
       record {
         fork = λ e j l. valid_at_lem 4 e j l;
         merge =
             λ e.
-            zero_or_one (λ j. (bit j (r b).marks && get_or valid (port_at rows (base_no b) (m + j)) false) ≡ false)
-            (gone_quiet (bit 0 (r b).marks) (won m (r b) (λ i. X (port_at rows (base_no b) i))).valid _ (valid_at_lem 7 e 0 (omega arith)))
-            (gone_quiet (bit 1 (r b).marks) (won m (r b) (λ i. X (port_at rows (base_no b) i))).valid _ (valid_at_lem 7 e 1 (omega arith)));
+            zero_or_one (λ j. (bit j (r b).marks && (sig_at signals (port_at (block_no net b) (m + j))).valid) ≡ false)
+            (gone_quiet (bit 0 (r b).marks) (won m (r b) (λ i. X (port_at (block_no net b) i))).valid _ (valid_at_lem 7 e 0 (omega arith)))
+            (gone_quiet (bit 1 (r b).marks) (won m (r b) (λ i. X (port_at (block_no net b) i))).valid _ (valid_at_lem 7 e 1 (omega arith)));
         position = λ e t. place e (sym (valid_at_lem 0 e 0 (omega arith)) ∙ t);
         passed = λ e. at_kind 10 e 0 (omega arith);
       }
     where
-      place : kind_no rows b ≡ 0 → offers (length (xs b)) (r b) (mask b) ≡ true → (r b).word < 4294967295
+      place : kind_no net b ≡ 0 → offers (length (xs b)) (r b) (mask b) ≡ true → (r b).word < 4294967295
       place e t =
           let l : (r b).word < length (xs b) = ltb-true (r b).word (length (xs b)) (and_1 (ltb (r b).word (length (xs b))) (full (r b) || mask b) t) in
           omega (arith, few e)
 
-module _ (rows values : List ℕ) (n : ℕ) (stream ends : List ℕ) (offer ready : ℕ) (r : ℕ → Reg) where
+module _ (net : Net) (stream ends : List ℕ) (offer ready : ℕ) (r : ℕ → Reg) where
   abbrev SourceAhead : ℕ → (ℕ → Sig) → Type 0
-  SourceAhead b = Holds (ahead rows values (stream_at rows stream ends) (mask_at rows offer ready) r b)
+  SourceAhead b = Holds (ahead net (stream_at net stream ends) (mask_at net offer ready) r b)
 
-  -- sources and sinks have their equation forward, where the sources of the list have; a sink puts nothing
-  pub all_sources : (count : ℕ) (at : ℕ → ℕ) → Listed rows n 0 count at → (X : ℕ → Sig) → ((k : ℕ) → k < count → SourceAhead (at k) X)
-      → (b : ℕ) → b < n → leb (kind_no rows b) 1 ≡ true → SourceAhead b X
-  all_sources count at l X h b lb t = by (kind_no rows b) refl (leb-true (kind_no rows b) 1 t)
+  -- sources and sinks have their equation forward, where the sources have; a sink puts nothing
+  pub all_sources : (X : ℕ → Sig) → ((b : ℕ) → b < net.size → is_kind_no net 0 b ≡ true → SourceAhead b X) → (b : ℕ) → b < net.size → ends-only (kind_no net b) ≡ true
+      → SourceAhead b X
+  all_sources X h b lb t = by (kind_no net b) refl (leb-true (kind_no net b) 1 t)
     where
-      by : (k : ℕ) → kind_no rows b ≡ k → k ≤ 1 → SourceAhead b X
-      by zero e q =
-          let p = listed_at rows n 0 count at l b lb (eq-eqb (kind_no rows b) 0 e) in
-          subst (λ (x : ℕ). SourceAhead x X) p.1 (h (count_below (is_kind_no rows 0) b) p.0)
-      by (suc zero) e q = λ o lo. let z : outs_no rows b ≡ 0 = ap (λ (k : ℕ). outputs_of k (m_no rows b)) e in absurd (never o lo z)
+      by : (k : ℕ) → kind_no net b ≡ k → k ≤ 1 → SourceAhead b X
+      by zero e q = h b lb (eq-eqb (kind_no net b) 0 e)
+      by (suc zero) e q = λ o lo. let z : outs_no net b ≡ 0 = ap (λ (k : ℕ). outputs_of k (m_no net b)) e in absurd (never o lo z)
         where
-          never : (o : ℕ) → o < outs_no rows b → outs_no rows b ≡ 0 → ⊥
+          never : (o : ℕ) → o < outs_no net b → outs_no net b ≡ 0 → ⊥
           never o lo z = omega arith
       by (suc (suc k)) e q = absurd (omega arith)
 
-  -- and backward, where the sinks of the list have; a source puts nothing
-  pub all_sinks : (count : ℕ) (at : ℕ → ℕ) → Listed rows n 1 count at → (X : ℕ → Sig) (Y : ℕ → Bool)
-      → ((k : ℕ) → k < count → Holds (back rows values (stream_at rows stream ends) (mask_at rows offer ready) r X (at k)) Y)
-      → (b : ℕ) → b < n → leb (kind_no rows b) 1 ≡ true → Holds (back rows values (stream_at rows stream ends) (mask_at rows offer ready) r X b) Y
-  all_sinks count at l X Y h b lb t = by (kind_no rows b) refl (leb-true (kind_no rows b) 1 t)
+  -- and backward, where the sinks have; a source puts nothing
+  pub all_sinks : (X : ℕ → Sig) (Y : ℕ → Bool)
+      → ((b : ℕ) → b < net.size → is_kind_no net 1 b ≡ true → Holds (back net (stream_at net stream ends) (mask_at net offer ready) r X b) Y)
+      → (b : ℕ) → b < net.size → ends-only (kind_no net b) ≡ true → Holds (back net (stream_at net stream ends) (mask_at net offer ready) r X b) Y
+  all_sinks X Y h b lb t = by (kind_no net b) refl (leb-true (kind_no net b) 1 t)
     where
-      by : (k : ℕ) → kind_no rows b ≡ k → k ≤ 1 → Holds (back rows values (stream_at rows stream ends) (mask_at rows offer ready) r X b) Y
-      by zero e q = source_free rows values (stream_at rows stream ends) (mask_at rows offer ready) r b e X Y
-      by (suc zero) e q =
-          let p = listed_at rows n 1 count at l b lb (eq-eqb (kind_no rows b) 1 e) in
-          subst (λ (x : ℕ). Holds (back rows values (stream_at rows stream ends) (mask_at rows offer ready) r X x) Y) p.1 (h (count_below (is_kind_no rows 1) b) p.0)
+      by : (k : ℕ) → kind_no net b ≡ k → k ≤ 1 → Holds (back net (stream_at net stream ends) (mask_at net offer ready) r X b) Y
+      by zero e q = source_free net (stream_at net stream ends) (mask_at net offer ready) r b e X Y
+      by (suc zero) e q = h b lb (eq-eqb (kind_no net b) 1 e)
       by (suc (suc k)) e q = absurd (omega arith)
 
-  pub all_settled : (count : ℕ) (at : ℕ → ℕ) → Listed rows n 0 count at → Fitting count (length stream) ends → ((k : ℕ) → get_or ends k 0 < 2 ^ 32)
-      → (valid : List Bool) (word : List ℕ) → ((b : ℕ) → b < n → SourceAhead b (sig_at valid word)) → AllSettled rows n r valid word
-  all_settled count at l f small valid word h b lb =
-      settled rows values (stream_at rows stream ends) (mask_at rows offer ready) r b valid word (h b lb) short
+  pub all_settled : (list : List ℕ) → Listed net 0 list → Fitting (length list) (length stream) ends → ((k : ℕ) → k < length list → get_or ends k 0 < 2 ^ 32)
+      → (signals : List Sig) → ((b : ℕ) → b < net.size → SourceAhead b (sig_at signals)) → AllSettled net r signals
+  all_settled list l f small signals h b lb = settled net (stream_at net stream ends) (mask_at net offer ready) r b signals (h b lb) short
     where
-      short : kind_no rows b ≡ 0 → length (stream_at rows stream ends b) ≤ 4294967295
+      short : kind_no net b ≡ 0 → length (stream_at net stream ends b) ≤ 4294967295
       short e =
-          let k : ℕ = number_no rows 0 b in
-          let p = listed_at rows n 0 count at l b lb (eq-eqb (kind_no rows b) 0 e) in
-          omega (arith, length-slice (end_before ends k) (get_or ends k 0) stream (f.within k p.0), small k)
+          let k : ℕ = number_no net 0 b in
+          let p = listed_at net 0 list l b lb (eq-eqb (kind_no net b) 0 e) in
+          omega (arith, length-slice (end_before ends k) (get_or ends k 0) stream (f.within k p.0), small k p.0)
+
+  -- ## The steps of a cycle, one after the other
+
+  -- the blocks of a kind that rests are worked out, after others that rest
+  abbrev pub Kind-ahead : ℕ → (ℕ → Sig) → (ℕ → Sig) → Type 0
+  Kind-ahead kind X Y =
+      (done : ℕ → Bool) → ((k : ℕ) → done k ≡ true → rests_ahead k ≡ true) → ((b : ℕ) → b < net.size → done (kind_no net b) ≡ true → SourceAhead b X) → (b : ℕ) → b < net.size
+      → (done (kind_no net b) ≡ true) ⊎ (is_kind_no net kind b ≡ true) → SourceAhead b Y
+
+  -- sources, then the two kinds of data buffers, then the blocks that do not rest
+  pub shown-all : (V W X Y : ℕ → Sig) → ((b : ℕ) → b < net.size → is_kind_no net 0 b ≡ true → SourceAhead b V) → Kind-ahead 8 V W → Kind-ahead 9 W X
+      → (((b : ℕ) → b < net.size → rests_ahead (kind_no net b) ≡ true → SourceAhead b X) → (b : ℕ) → b < net.size → SourceAhead b Y) → (b : ℕ) → b < net.size → SourceAhead b Y
+  shown-all V W X Y sources empty full rest =
+      let buffers = empty ends-only ends-rest (all_sources V sources) in
+      let resting = full ends_data data_rest (λ b lb t. buffers b lb (data_cases (kind_no net b) t)) in
+      rest (λ b lb t. resting b lb (rest_cases (kind_no net b) t))
+
+  module _ (X : ℕ → Sig) where
+    abbrev SourceBack : ℕ → (ℕ → Bool) → Type 0
+    SourceBack b = Holds (back net (stream_at net stream ends) (mask_at net offer ready) r X b)
+
+    -- sinks, then control buffers, then the blocks that do not rest
+    pub taken_all : (U V W : ℕ → Bool) → ((b : ℕ) → b < net.size → is_kind_no net 1 b ≡ true → SourceBack b U)
+        → ((done : ℕ → Bool) → ((k : ℕ) → done k ≡ true → rests_back k ≡ true) → ((b : ℕ) → b < net.size → done (kind_no net b) ≡ true → SourceBack b U) → (b : ℕ) → b < net.size
+        → (done (kind_no net b) ≡ true) ⊎ (is_kind_no net 10 b ≡ true) → SourceBack b V)
+        → (((b : ℕ) → b < net.size → rests_back (kind_no net b) ≡ true → SourceBack b V) → (b : ℕ) → b < net.size → SourceBack b W) → (b : ℕ) → b < net.size → SourceBack b W
+    taken_all U V W sinks control rest =
+        let resting = control ends-only ends-ready (all_sinks X U sinks) in
+        rest (λ b lb t. resting b lb (back_cases (kind_no net b) t))

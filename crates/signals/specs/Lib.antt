@@ -1,2 +1,2 @@
--- Working definitions: what the signals of a cycle are, by rows.
+-- Working definitions: what the signals of a cycle are, of a net.
 pub mod Wires

@@ -1,7 +1,7 @@
-// The signals of one cycle, by rows: sources offer, sinks are ready, the passes work out the rest; and what moved.
+// The signals of one cycle of a net: sources offer, sinks are ready, the passes work out the rest; and what moved.
 #![tactic(auto)]
 
-pub mod ends;
+mod ends;
 pub mod wires;
 
 // What moved in a cycle: a delivery mark and the word for each channel, zero where nothing did.

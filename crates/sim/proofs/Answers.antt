@@ -1,48 +1,46 @@
 -- The answer of a step of an accepted net, by its refusals 13, 14 and 16 in checking order.
 -- Assumes nothing.
-use mathlib.Core.Path.{◌≡◌, refl, sym, ◌∙◌}
-use mathlib.Core.Bool.{Bool, true, false, cond, not}
-use mathlib.Core.List.{List}
-use Prim.Native.Nat.{ℕ, ◌+◌, ◌≤◌, ◌<◌}
-use native.Mathlib.Omega.{arith}
-use borrow.Author.Tests.{lt-ltb, le-ltb}
-use Rattle.nets.specs.declared.Net.{Net}
+use Rattle.std.proofs.Common.{◌≡◌, refl, sym, ◌∙◌, Bool, true, false, cond, not, List, ℕ, ◌+◌, ◌≤◌, ◌<◌, arith, lt-ltb, le-ltb}
+use Rattle.blocks.specs.declared.Net.{Net}
+use Rattle.blocks.specs.declared.Refusal.TheVariants as refusal
 use Rattle.cycles.specs.Streams.{ends_fit}
 use Rattle.cycles.specs.Cycle.{signals_of}
 use Rattle.cycles.specs.State.{regs_of, shape_ok}
 use Rattle.cycles.specs.Step.{refusal_by, refused_step, stepped_by, step_by}
-use Rattle.cycles.specs.declared.State.{State}
-use Rattle.sim.specs.Laid.{tested_no}
+use Rattle.blocks.specs.declared.State.{State}
+use Rattle.sim.specs.Laid.{tested_no, Failing}
 
 module _ (net : Net) (s : State) (words ends : List ℕ) where
-  -- ## The tests of a state and of ends
-
-  pub tested_13 : shape_ok net s ≡ false → 13 ≡ tested_no net s words ends
-  tested_13 e = rw e
-
-  pub tested_14 : shape_ok net s ≡ true → ends_fit net words ends ≡ false → 14 ≡ tested_no net s words ends
-  tested_14 e d = rw (e, d)
-
-  pub tested_0 : shape_ok net s ≡ true → ends_fit net words ends ≡ true → 0 ≡ tested_no net s words ends
-  tested_0 e d = rw (e, d)
-
-  pub passed : (n : ℕ) → n ≡ tested_no net s words ends → n ≡ 0 → (shape_ok net s ≡ true) × (ends_fit net words ends ≡ true)
-  passed n e z = by (shape_ok net s) (ends_fit net words ends) (sym e ∙ z)
+  pub passed : tested_no net s words ends ≡ 0 → (shape_ok net s ≡ true) × (ends_fit net words ends ≡ true)
+  passed z = by (shape_ok net s) (ends_fit net words ends) z
     where
       by : (a b : Bool) → ◌≡◌ {A = ℕ} (cond (not a) 13 (cond (not b) 14 0)) 0 → (a ≡ true) × (b ≡ true)
       by true true p = (refl, refl)
       by true false p = absurd (omega (arith, p))
       by false b p = absurd (omega (arith, p))
 
+  pub state-fails : shape_ok net s ≡ false → Failing net s words ends refusal.State
+  state-fails e = let t : tested_no net s words ends ≡ 13 = rw e in record { tested = sym t; fails = λ z. omega (arith, sym t ∙ z) }
+
+  pub ends-fail : shape_ok net s ≡ true → ends_fit net words ends ≡ false → Failing net s words ends refusal.Streams
+  ends-fail e d = let t : tested_no net s words ends ≡ 14 = rw (e, d) in record { tested = sym t; fails = λ z. omega (arith, sym t ∙ z) }
+
+  pub none-fails : shape_ok net s ≡ true → ends_fit net words ends ≡ true → tested_no net s words ends ≡ 0
+  none-fails e d = rw (e, d)
+
   -- ## The answer
 
   module _ (offer ready : ℕ) where
-    pub refused-tested : (n : ℕ) → n ≡ tested_no net s words ends → (n ≡ 0 → ⊥) → refused_step n s ≡ step_by true net s words ends offer ready
+    pub refused-12 : refused_step 12 s ≡ step_by false net s words ends offer ready
+    unfolding step_by refusal_by
+    refused-12 = refl
+
+    pub refused-tested : (n : ℕ) → n ≡ tested_no net s words ends → (tested_no net s words ends ≡ 0 → ⊥) → refused_step n s ≡ step_by true net s words ends offer ready
     unfolding step_by refusal_by
     refused-tested n e z = by (shape_ok net s) (ends_fit net words ends) refl refl
       where
         by : (a b : Bool) → shape_ok net s ≡ a → ends_fit net words ends ≡ b → refused_step n s ≡ step_by true net s words ends offer ready
-        by true true p q = absurd (z (e ∙ rw (p, q)))
+        by true true p q = absurd (z (rw (p, q)))
         by true false p q = rw (e, p, q)
         by false b p q = rw (e, p)
 

@@ -1,35 +1,23 @@
--- A plan's number says whether the net is accepted, and 0 gives the promises.
+-- What the check of a net finds says whether the net is accepted.
 -- Assumes nothing.
-use mathlib.Core.Path.{◌≡◌, refl, sym, ap, ◌∙◌}
-use mathlib.Core.Bool.{true, false}
-use borrow.Author.Tests.{eq-eqb, ne_eqb}
-use lib.Dec.{eqb}
-use Rattle.nets.specs.Promises.{Promises, Planned}
-use Rattle.nets.specs.Verdict.{number_of}
-use Rattle.nets.specs.declared.Net.{Net}
+use Rattle.std.proofs.Common.{◌≡◌, refl, sym, ap, ◌∙◌, true, false, Ok, Err}
+use Rattle.blocks.specs.declared.Net.{Net}
+use Rattle.nets.specs.Promises.{Planned, earned}
 use Rattle.nets.specs.declared.Plan.{Plan}
-use Rattle.nets.specs.declared.Verdict.{Verdict}
-use Rattle.nets.specs.declared.Verdict.TheVariants.{Accepted, Field, Connection, Ends, DataLoop, ControlLoop}
-use Rattle.nets.proofs.Decided.{is_accepted, accepted, planned_verdict, verdict_of_lem, accepted_true}
+use Rattle.nets.specs.declared.Fault.{Fault}
+use Rattle.nets.specs.declared.Fault.TheVariants.{Field, Connection, Ends, DataLoop, ControlLoop}
+use Rattle.nets.proofs.Decided.{is_accepted, accepted, planned_verdict, accepted_is}
 
-number-says : (v : Verdict) → is_accepted v ≡ eqb (number_of v) 0
-number-says Accepted = refl
-number-says Field = refl
-number-says Connection = refl
-number-says Ends = refl
-number-says DataLoop = refl
-number-says ControlLoop = refl
+faulty : (f : Fault) → is_accepted (earned f) ≡ false
+faulty Field = refl
+faulty Connection = refl
+faulty Ends = refl
+faulty DataLoop = refl
+faulty ControlLoop = refl
 
-module _ (net : Net) (p : Plan) (h : Planned net p) where
-  by_number : accepted net ≡ eqb (number_of p.verdict) 0
-  unfolding accepted
-  by_number = ap is_accepted (sym (planned_verdict net p h)) ∙ number-says p.verdict
+pub accepted_when : (net : Net) (p : Plan) → Planned net (Ok p) → accepted net ≡ true
+accepted_when net p h = accepted_is net h.0
 
-  pub accepted_when : number_of p.verdict ≡ 0 → accepted net ≡ true
-  accepted_when e = by_number ∙ eq-eqb (number_of p.verdict) 0 e
-
-  pub refused_when : (number_of p.verdict ≡ 0 → ⊥) → accepted net ≡ false
-  refused_when never = by_number ∙ ne_eqb (number_of p.verdict) 0 never
-
-  pub promised : number_of p.verdict ≡ 0 → Promises net p
-  promised e = h.ready (planned_verdict net p h ∙ verdict_of_lem net Accepted (accepted_true net (accepted_when e)))
+pub refused_when : (net : Net) (f : Fault) → Planned net (Err f) → accepted net ≡ false
+unfolding accepted
+refused_when net f h = ap is_accepted (sym (planned_verdict net (Err f) h)) ∙ faulty f

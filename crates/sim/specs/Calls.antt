@@ -1,10 +1,10 @@
 -- What the public calls `fresh` and `step` answer: the definitions of crate `cycles`, with `accepted` of crate `nets` for "the net value doesn't earn 12".
 -- Assumes nothing.
 use Rattle.std.specs.Prelude.{ℕ, cond, List}
-use Rattle.nets.specs.declared.Net.{Net}
+use Rattle.blocks.specs.declared.Net.{Net}
 use Rattle.nets.proofs.Decided.{accepted}
 use Rattle.cycles.specs.Step.{step_by, fresh_by}
-use Rattle.cycles.specs.declared.State.{State}
+use Rattle.blocks.specs.declared.State.{State}
 use Rattle.cycles.specs.declared.Stepped.{Stepped}
 use Rattle.sim.specs.declared.Fresh.{Fresh}
 

@@ -1,38 +1,42 @@
--- A net laid out for one cycle, with the tests of its state and streams, and the signals of that cycle in arrays: what our own functions work out.
+-- A net laid out for one cycle, with the tests of its state and streams, and a step's answer: what our own functions work out.
 -- Assumes nothing.
-use Rattle.std.specs.Prelude.{ℕ, ◌≡◌, Bool, cond, not, List, length, get_or}
-use Rattle.nets.specs.declared.Net.{Net}
+use Rattle.std.specs.Prelude.{ℕ, ◌≡◌, cond, not, List, length, Result, Ok, Err}
+use Rattle.blocks.specs.Refusals.{refusal_number}
+use Rattle.blocks.specs.declared.Net.{Net}
+use Rattle.blocks.specs.declared.Refusal.{Refusal}
+use Rattle.blocks.specs.declared.State.{State}
 use Rattle.cycles.specs.Streams.{ends_fit}
 use Rattle.cycles.specs.State.{shape_ok}
-use Rattle.cycles.specs.declared.State.{State}
-use Rattle.ports.specs.Places.{sig_at, ready_at}
-use Rattle.passes.specs.Rows.{reg_in, rests_ahead, rests_back, Rowed, Shaped, Whole, Kinds}
-use Rattle.passes.specs.Passed.{AllSettled}
-use Rattle.rows.specs.Flat.{Flat}
-use Rattle.rows.specs.Ends.{stream_at, mask_at, Fitting}
-use Rattle.signals.specs.Wires.{Worked}
-use Rattle.sim.specs.declared.Prepared.{Prepared}
+use Rattle.cycles.specs.Step.{refused_step}
+use Rattle.cycles.specs.declared.Stepped.{Stepped}
+use Rattle.passes.specs.Rows.{in_kind, Shaped}
+use Rattle.rows.specs.Flat.{Ordered}
+use Rattle.rows.specs.Ends.{Fitting}
+use Rattle.rows.specs.declared.Laid.{Laid}
 
 -- 13 for the state, then 14 for the ends
 abbrev pub tested_no : Net → State → List ℕ → List ℕ → ℕ
 tested_no net s words ends = cond (not (shape_ok net s)) 13 (cond (not (ends_fit net words ends)) 14 0)
 
--- rows, values and lists are the net's, and the tests have this outcome
-pub record Laid (net : Net) (s : State) (words ends rows values : List ℕ) (r : Prepared) : Type 0 where
-  pub flat : Flat net net.size rows values
-  pub kinds : Kinds rows net.size r.sorted.counts r.sorted.lists
-  pub tested : r.refusal ≡ tested_no net s words ends
+-- what the signals of a cycle are worked out from, where no test fails: the net's blocks that do not rest, along its orders, registers in shape and ends that fit
+pub record Given (net : Net) (s : State) (words ends : List ℕ) (laid : Laid) : Type 0 where
+  pub same_net : laid.net.now ≡ net
+  pub ordered : Ordered laid
+  pub tested : tested_no net s words ends ≡ 0
+  pub shaped : Shaped laid.net.now s
+  pub fitting : Fitting (length (in_kind laid.sorted 0)) (length words) ends
 
--- what the signals of a cycle are worked out from: n rows of a net, its orders, its blocks by kind, registers in shape and ends that fit
-pub record Given (rows : List ℕ) (n : ℕ) (data_order control_order counts lists words marks stream ends : List ℕ) : Type 0 where
-  pub rowed : Rowed rows n
-  pub forth : Whole rows n rests_ahead data_order
-  pub rear : Whole rows n rests_back control_order
-  pub kinds : Kinds rows n counts lists
-  pub shaped : Shaped rows n words marks
-  pub fitting : Fitting (get_or counts 0 0) (length stream) ends
+-- a test fails, and this is its refusal
+pub record Failing (net : Net) (s : State) (words ends : List ℕ) (refusal : Refusal) : Type 0 where
+  pub tested : refusal_number refusal ≡ tested_no net s words ends
+  pub fails : tested_no net s words ends ≡ 0 → ⊥
 
--- the arrays hold the signals of the cycle
-pub record Shown (rows values : List ℕ) (n : ℕ) (words marks stream ends : List ℕ) (offer mask : ℕ) (valid : List Bool) (word : List ℕ) (ready : List Bool) : Type 0 where
-  pub worked : Worked rows values n (stream_at rows stream ends) (mask_at rows offer mask) (reg_in words marks) (sig_at valid word) (ready_at ready)
-  pub settled : AllSettled rows n (reg_in words marks) valid word
+-- the net laid out, or the refusal of what the cycle is given
+abbrev pub Prepared : Net → State → List ℕ → List ℕ → Result Laid Refusal → Type 0
+Prepared net s words ends (Ok laid) = Given net s words ends laid
+Prepared net s words ends (Err refusal) = Failing net s words ends refusal
+
+-- the answer of a step: of a refused one the state handed in, and nothing delivered
+abbrev pub answer_in : State → Result Stepped Refusal → Stepped
+answer_in s (Ok stepped) = stepped
+answer_in s (Err refusal) = refused_step (refusal_number refusal) s

@@ -1,95 +1,54 @@
-// What every call begins with that looks at one cycle of an accepted net: the tests of its state and streams, and the signals of the cycle.
-ghost use Rattle.std.specs.Prelude.{◌≡◌, true, length};
-ghost use Rattle.nets.specs.Net.{fields_ok, connected};
-ghost use Rattle.ports.specs.Places.{Sized};
-ghost use Rattle.sim.specs.Laid.{Laid, Given, Shown};
+// What every call begins with that looks at a cycle of an accepted net: its streams, the net laid out, and the tests of its state and streams.
+ghost use Rattle.std.specs.Prelude.{◌≡◌, MatchResult};
+ghost use Rattle.nets.specs.Promises.{Promises};
+ghost use Rattle.rows.specs.Ends.{read};
+ghost use Rattle.sim.specs.Laid.{tested_no, Failing, Prepared};
 
-use crate::Prepared;
-use cycles::State;
-use nets::Net;
+use blocks::{Kind, Net, Refusal, State};
+use nets::Plan;
 use rows::checks::{ends_fit, shape_ok};
-use rows::flat::{flatten, pick, sort_kinds};
-use signals::wires::wires;
+use rows::flat::lay_out;
+use rows::{Laid, Streams};
+use trace::numbers::Numbers;
 
-// Lays the net out in rows and values, and its blocks by kind; tests the state (13) and the ends (14).
-pub fn prepare(
-    net: Net,
-    state: State,
-    stream: &[u32],
-    ends: &[u32],
-    rows: &mut [u8; 768],
-    values: &mut [u32; 64],
-) -> Prepared
-    requires net_value { (fields_ok net ≡ true) × (connected net ≡ true) }
-    requires rows_len { (length rows.old ≡ 768) × (length values.old ≡ 64) }
-    ensures { Laid net state stream.now ends.now rows.new values.new result }
+// Streams whose words and ends are given as lists.
+// stays: makes one value of the two.
+#[tactic(auto, unfolding(trace::specs::Numbers::numbers_of))]
+pub fn listed<'a>(words: &'a [u32], ends: &'a [u32]) -> Streams<'a>
+    ensures words_are { read result.words ≡ words.now }
+    ensures ends_are { read result.ends ≡ ends.now }
 {
-    let n = net.size as usize;
-    flatten(net, n, rows, values);
-    let sorted = sort_kinds(n, rows);
-    if !shape_ok(state, n, rows) {
-        return Prepared {
-            refusal: 13,
-            sorted,
-        };
+    Streams {
+        words: Numbers::of_list(words),
+        ends: Numbers::of_list(ends),
     }
-    if !ends_fit(sorted.counts[0], stream.len(), b"", ends) {
-        return Prepared {
-            refusal: 14,
-            sorted,
-        };
-    }
-    Prepared { refusal: 0, sorted }
 }
 
-// The signals of a cycle whose rows, lists and orders are made, over streams that fit: what each channel shows, and whether it is ready.
-pub fn signals_in(
-    n: usize,
-    data: &[u8; 64],
-    control: &[u8; 64],
-    counts: &[usize; 11],
-    lists: &[u8; 704],
-    rows: &[u8; 768],
-    values: &[u32; 64],
-    stream: &[u32],
-    ends: &[u32],
-    offer: u32,
-    mask: u32,
-    words: &[u32; 64],
-    marks: &[u8; 64],
-    valid: &mut [bool; 128],
-    word: &mut [u32; 128],
-    ready: &mut [bool; 128],
-)
-    requires given { Given rows.now n «data».now control.now counts.now lists.now words.now marks.now stream.now ends.now }
-    requires sized { (Sized valid.old word.old) × (length ready.old ≡ 128) }
-    ensures { Shown rows.now values.now n words.now marks.now stream.now ends.now offer mask
-        valid.new word.new ready.new }
+// Tests the state (13) and the ends (14), by the net that is laid out.
+pub fn tested(laid: &Laid, state: &State, streams: Streams) -> Result<(), Refusal>
+    ensures { let net = laid.now.net.now in let words = read streams.entry.words in let ends = read streams.entry.ends in MatchResult result (λ u. tested_no net state.now words ends ≡ 0) (λ refusal. Failing net state.now words ends refusal) }
 {
-    let ahead = pick(false, n, data, rows);
-    let behind = pick(true, n, control, rows);
-    let forth = ahead.blocks;
-    let rear = behind.blocks;
-    wires(
-        n,
-        ahead.count,
-        &forth,
-        behind.count,
-        &rear,
-        counts,
-        lists,
-        rows,
-        values,
-        b"",
-        stream,
-        b"",
-        ends,
-        offer,
-        mask,
-        words,
-        marks,
-        valid,
-        word,
-        ready,
-    );
+    if !shape_ok(state, laid.net) {
+        return Err(Refusal::State);
+    }
+    let sources = laid.sorted.of_kind(Kind::Source).len();
+    if !ends_fit(sources, streams.words.len(), streams.ends) {
+        return Err(Refusal::Streams);
+    }
+    Ok(())
+}
+
+// Lays the net out by its plan; tests the state (13) and the ends (14).
+pub fn begin<'a>(
+    net: &'a Net,
+    plan: &Plan,
+    state: &State,
+    streams: Streams,
+) -> Result<Laid<'a>, Refusal>
+    requires { Promises net.now plan.now }
+    ensures { Prepared net.now state.now (read streams.entry.words) (read streams.entry.ends) result }
+{
+    let laid = lay_out(net, plan);
+    tested(&laid, state, streams)?;
+    Ok(laid)
 }

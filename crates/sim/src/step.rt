@@ -1,166 +1,137 @@
 // The calls `fresh` and `step`.
-ghost use Rattle.std.specs.Prelude.{◌≡◌, true, false, ◌&&◌, ℕ, ◌≤◌, ◌<◌, eqb, length};
-ghost use Rattle.cycles.specs.State.{fresh_state, regs_of, shape_ok};
-ghost use Rattle.cycles.specs.Streams.{ends_fit};
+ghost use Rattle.std.specs.Prelude.{◌≡◌, true, ◌+◌, ◌≤◌, ◌<◌, length};
+ghost use Rattle.cycles.specs.State.{fresh_state, regs_of};
 ghost use Rattle.cycles.specs.Cycle.{signals_of};
-ghost use Rattle.cycles.specs.Step.{refused_step, stepped_by, step_by};
-ghost use Rattle.nets.specs.Promises.{Planned, Promises};
+ghost use Rattle.cycles.specs.Step.{refused_step, stepped_by};
+ghost use Rattle.blocks.specs.Refusals.{refusal_number};
+ghost use Rattle.nets.proofs.Decided.{accepted};
+ghost use Rattle.rows.specs.Ends.{read};
 ghost use Rattle.sim.specs.Calls.{fresh_of, step_of};
-ghost use Rattle.rows.specs.Flat.{Flat};
-ghost use Rattle.passes.specs.Rows.{Kinds};
+ghost use Rattle.sim.specs.Laid.{Given, answer_in};
 
 use crate::Fresh;
-use crate::cycle::{prepare, signals_in};
+use crate::cycle::{begin, listed};
+use blocks::{Refusal, Sig};
 use cycles::{State, Stepped};
-use nets::{Net, Plan};
-use rows::Sorted;
-use signals::wires::moves_of;
+use nets::Net;
+use passes::registers::registers;
+use rows::checks::CYCLE_LIMIT;
+use rows::{Laid, Streams};
+use signals::Moves;
+use signals::wires::{moves_of, wires};
 
-// The most cycles that a state counts.
-const CYCLE_LIMIT: u32 = 1048576;
+// No cycle run, and no block with anything in its registers.
+const ZERO: State = State {
+    count: 0,
+    words: [0; 64],
+    marks: [0; 64],
+};
 
-// The fresh state of n blocks.
-fn fresh_state(net: Net, n: usize) -> State
-    requires { (n ≡ net.size) × (n ≤ 64) }
-    ensures { result ≡ fresh_state net }
+// The fresh state of a net. (Stored field by field: of a state that a call has changed, as `set_reg` would, the proof does not know how long its arrays are.)
+fn fresh_state(net: &Net) -> State
+    requires { net.now.size ≤ 64 }
+    ensures { result ≡ fresh_state net.now }
 {
-    let mut words = [0u32; 64];
-    let mut marks = [0u8; 64];
-    let mut b: usize = 0;
-    while b < n {
-        let block = net.blocks[b];
+    let mut state = ZERO;
+    for b in 0..net.size as usize {
+        let block = &net.blocks[b];
         let reg = blocks::cycle::fresh_reg(block.kind, block.value);
-        words[b] = reg.word;
-        marks[b] = reg.marks;
-        b += 1;
+        state.words[b] = reg.word;
+        state.marks[b] = reg.marks;
     }
-    State {
-        count: 0,
-        words,
-        marks,
-    }
+    state
 }
 
 // The fresh state of a net: count 0, zero registers, but kind 9 is full. Refused (12): a zero state.
 pub fn fresh(net: Net) -> Fresh
     ensures { result ≡ fresh_of net }
 {
-    let plan = nets::plan_of(net);
-    let verdict = plan.verdict;
-    if nets::number(verdict) != 0 {
-        let state = State {
-            count: 0,
-            words: [0; 64],
-            marks: [0; 64],
-        };
-        return Fresh { refusal: 12, state };
+    match nets::plan_of(net) {
+        Ok(_) => Fresh {
+            refusal: 0,
+            state: fresh_state(&net),
+        },
+        Err(_) => Fresh {
+            refusal: Refusal::Net as u8,
+            state: ZERO,
+        },
     }
-    let state = fresh_state(net, net.size as usize);
-    Fresh { refusal: 0, state }
 }
 
 // A refused step: the state handed in, nothing delivered.
-fn refused(refusal: u8, state: State) -> Stepped
-    ensures { result ≡ refused_step refusal state }
+fn refused(refusal: Refusal, state: State) -> Stepped
+    ensures { result ≡ refused_step (refusal_number refusal) state }
 {
     Stepped {
-        refusal,
+        refusal: refusal as u8,
         state,
         delivered: [0; 128],
         words: [0; 128],
     }
 }
 
-// One cycle of an accepted net, whose rows and lists are made, over streams that fit.
-fn work(
-    net: Net,
-    plan: Plan,
-    sorted: Sorted,
-    rows: &[u8; 768],
-    values: &[u32; 64],
-    state: State,
-    stream: &[u32],
-    ends: &[u32],
-    offer: u32,
-    ready: u32,
-) -> Stepped
-    requires promises { Promises net plan }
-    requires flat { Flat net net.size rows.now values.now }
-    requires kinds { Kinds rows.now net.size sorted.counts sorted.lists }
-    requires state_value { (shape_ok net state ≡ true) × (state.count < 1048576) }
-    requires ends_value { ends_fit net stream.now ends.now ≡ true }
-    ensures { result ≡ stepped_by net state stream.now ends.now (signals_of net stream.now ends.now offer ready (regs_of state)) }
+// Counts a cycle. (A function of its own, since it tells again how long the arrays are.)
+fn count_cycle(state: &mut State)
+    requires { state.old.count < 1048576 }
+    ensures count { state.new.count ≡ state.old.count + 1 }
+    ensures same { (state.new.words ≡ state.old.words) × (state.new.marks ≡ state.old.marks) }
+    ensures long { (length state.new.words ≡ 64) × (length state.new.marks ≡ 64) }
 {
-    let n = net.size as usize;
-    let data = plan.data;
-    let control = plan.control;
-    let counts = sorted.counts;
-    let lists = sorted.lists;
-    let mut words = state.words;
-    let mut marks = state.marks;
-    let mut valid = [false; 128];
-    let mut word = [0u32; 128];
+    state.count += 1;
+}
+
+// One cycle of an accepted net that is laid out, from a state and over streams that have passed the tests.
+// stays: offer and ready part where they are used, in `wires`; a struct would only be taken apart there.
+fn work(laid: &Laid, state: &State, streams: Streams, offer: u32, ready: u32) -> Stepped
+    requires net_value { accepted laid.now.net.now ≡ true }
+    requires given { Given laid.now.net.now state.now (read streams.words) (read streams.ends) laid.now }
+    requires count_bound { state.now.count < 1048576 }
+    ensures { let net = laid.now.net.now in let words = read streams.entry.words in let ends = read streams.entry.ends in result ≡ stepped_by net state.now words ends (signals_of net words ends offer ready (regs_of state.now)) }
+{
+    let mut signals = [Sig::NOTHING; 128];
     let mut taken = [false; 128];
-    signals_in(
-        n, &data, &control, &counts, &lists, rows, values, stream, ends, offer, ready, &words,
-        &marks, &mut valid, &mut word, &mut taken,
-    );
-    let moved = moves_of(net.channels as usize, &valid, &word, &taken);
-    passes::registers::registers(
-        n, &counts, &lists, rows, &valid, &word, &taken, &mut words, &mut marks,
-    );
-    let after = State {
-        count: state.count + 1,
-        words,
-        marks,
-    };
-    let delivered = moved.delivered;
-    let carried = moved.words;
+    wires(laid, streams, offer, ready, state, &mut signals, &mut taken);
+    let Moves { delivered, words } = moves_of(laid.net.channels as usize, &signals, &taken);
+    let mut after = *state;
+    registers(&laid.sorted, laid.net, &signals, &taken, &mut after);
+    count_cycle(&mut after);
     Stepped {
         refusal: 0,
         state: after,
         delivered,
-        words: carried,
+        words,
     }
 }
 
-// A step of an accepted net: refusals 13, 14 and 16, in that order.
-fn step_accepted(
-    net: Net,
-    plan: Plan,
-    state: State,
-    stream: &[u32],
-    ends: &[u32],
+// A step, refused in this order: 12 (the net), 13 (the state), 14 (the ends), 16 (the count).
+// stays: offer and ready part where they are used, in `wires`; a struct would only be taken apart there.
+fn stepped(
+    net: &Net,
+    state: &State,
+    streams: Streams,
     offer: u32,
     ready: u32,
-) -> Stepped
-    requires { Promises net plan }
-    ensures { result ≡ step_by true net state stream.now ends.now offer ready }
+) -> Result<Stepped, Refusal>
+    ensures { answer_in state.now result ≡ step_of net.now state.now (read streams.entry.words) (read streams.entry.ends) offer ready }
 {
-    let mut rows = [0u8; 768];
-    let mut values = [0u32; 64];
-    let laid = prepare(net, state, stream, ends, &mut rows, &mut values);
-    if laid.refusal != 0 {
-        return refused(laid.refusal, state);
-    }
+    let Ok(plan) = nets::plan_of(*net) else {
+        return Err(Refusal::Net);
+    };
+    let laid = begin(net, &plan, state, streams)?;
     if CYCLE_LIMIT <= state.count {
-        return refused(16, state);
+        return Err(Refusal::Cycles);
     }
-    let sorted = laid.sorted;
-    work(
-        net, plan, sorted, &rows, &values, state, stream, ends, offer, ready,
-    )
+    Ok(work(&laid, state, streams, offer, ready))
 }
 
 // One cycle: the state after it, and what each channel delivered. Refused in this order: 12 (the net), 13 (the state), 14 (the ends), 16 (the count); then the state handed
 // in comes back, and nothing is delivered.
+// stays: the parameters of a public call stay as they were.
 pub fn step(net: Net, state: State, stream: &[u32], ends: &[u32], offer: u32, ready: u32) -> Stepped
     ensures { result ≡ step_of net state stream.now ends.now offer ready }
 {
-    let plan = nets::plan_of(net);
-    let verdict = plan.verdict;
-    if nets::number(verdict) != 0 {
-        return refused(12, state);
+    match stepped(&net, &state, listed(stream, ends), offer, ready) {
+        Ok(answer) => answer,
+        Err(refusal) => refused(refusal, state),
     }
-    step_accepted(net, plan, state, stream, ends, offer, ready)
 }

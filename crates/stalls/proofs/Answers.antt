@@ -1,31 +1,35 @@
 -- The answer of `follow`: what the walk leaves, the refusals 12, 13, 14 and 24 in checking order, and what is known where it is not refused.
 -- Assumes nothing.
-use mathlib.Core.Path.{◌≡◌, refl, sym, ap, ◌∙◌}
-use mathlib.Core.Bool.{Bool, true, false, cond, not}
-use mathlib.Core.List.{List}
-use Prim.Native.Nat.{ℕ, zero, suc, ◌≤◌, ◌<◌}
-use native.Mathlib.Omega.{arith}
-use borrow.Author.Tests.{le-leb, lt-leb, leb-false}
-use lib.Dec.{leb, eqb, eqb-suc-zero}
-use lib.ListN.{length, get_or, replicate}
-use Rattle.nets.specs.declared.Net.{Net}
+use Rattle.std.proofs.Common.{◌≡◌, refl, sym, ap, ap₂, ◌∙◌, Bool, true, false, cond, not, List, map, ℕ, zero, suc, ◌≤◌, ◌<◌, Some, length, replicate, leb, eqb, arith}
+use Rattle.std.proofs.lemmas.Bool.{le-leb, lt-leb, leb-false}
+use lib.Dec.{eqb-suc-zero}
+use lib.Seq.{sets}
+use Rattle.blocks.specs.declared.Net.{Net}
+use Rattle.blocks.specs.declared.Sig.{Sig}
+use Rattle.blocks.specs.declared.State.{State}
 use Rattle.nets.proofs.Decided.{accepted}
 use Rattle.cycles.specs.Streams.{ends_fit}
 use Rattle.cycles.specs.State.{shape_ok}
-use Rattle.cycles.specs.declared.State.{State}
+use Rattle.ports.specs.Places.{sig_at}
 use Rattle.sim.specs.Laid.{tested_no}
+use Rattle.asking.specs.declared.Ending.{Ending}
 use Rattle.chains.specs.Chain.{Trail}
 use Rattle.chains.specs.Rows.{Follows}
 use Rattle.chains.specs.declared.Walked.{Walked}
 use Rattle.stalls.specs.Calls.{chain_refusal, chain_by, answer_of, no_chain, follow_by, follow_of}
 use Rattle.stalls.specs.declared.Chain.{Chain}
 
--- what the walk from an empty list leaves is the chain
-pub answered : (valid : List Bool) (t u : Trail) (list : List ℕ) (has : List Bool) (r : Walked) → t ≡ u → Follows u valid 0 (replicate 128 0) list (replicate 128 false) has r
-    → ◌≡◌ {A = Chain} (record { refusal = 0; count = r.count; channels = list; valid = has; ending = r.ending }) (chain_by (λ x. get_or valid x false) t)
-answered valid t u list has r p f =
-    let counted : r.count ≡ length u.channels = omega (arith, f.counted) in
-    (λ i. record { refusal = 0; count = counted i; channels = f.listed i; valid = f.shown i; ending = f.ended i }) ∙ ap (chain_by (λ x. get_or valid x false)) (sym p)
+-- what the walk from before the first channel leaves is the chain
+pub answered : (signals : List Sig) (t u : Trail) (before walked : Walked) (e : Ending) → before.count ≡ 0 → before.channels ≡ replicate 128 0 → before.valid ≡ replicate 128 false
+    → t ≡ u → Follows u signals before walked e
+    → ◌≡◌ {A = Chain} (record { refusal = 0; count = walked.count; channels = walked.channels; valid = walked.valid; ending = Some e }) (chain_by (λ x. (sig_at signals x).valid) t)
+answered signals t u before walked e none empty blank p f =
+    let counted : walked.count ≡ length u.channels = omega (arith, f.counted) in
+    let listed : walked.channels ≡ sets (replicate 128 0) 0 u.channels = f.listed ∙ ap₂ (λ (l : List ℕ) (k : ℕ). sets l k u.channels) empty none in
+    let shown : walked.valid ≡ sets (replicate 128 false) 0 (map (λ x. (sig_at signals x).valid) u.channels) =
+    f.shown ∙ ap₂ (λ (l : List Bool) (k : ℕ). sets l k (map (λ x. (sig_at signals x).valid) u.channels)) blank none in
+    (λ i. record { refusal = 0; count = counted i; channels = listed i; valid = shown i; ending = sym f.ended i })
+    ∙ ap (chain_by (λ x. (sig_at signals x).valid)) (sym p)
 
 module _ (net : Net) (s : State) (words ends : List ℕ) (offer ready c : ℕ) where
   pub refused_12 : accepted net ≡ false → no_chain 12 ≡ follow_of net s words ends offer ready c
@@ -49,6 +53,11 @@ module _ (net : Net) (s : State) (words ends : List ℕ) (offer ready c : ℕ) w
     pub not-refused : c < net.channels → answer_of net s words ends offer ready c ≡ follow_by true net s words ends offer ready c
     unfolding follow_by chain_refusal
     not-refused l = rw (shape, fit, lt-leb net.channels c l)
+
+  -- of an accepted net that is what `follow` answers
+  pub followed_is : accepted net ≡ true → follow_by true net s words ends offer ready c ≡ follow_of net s words ends offer ready c
+  unfolding follow_of
+  followed_is ok = ap (λ (a : Bool). follow_by a net s words ends offer ready c) (sym ok)
 
   -- what is known of a call that is not refused
   pub record Taken : Type 0 where

@@ -8,6 +8,7 @@ use mathlib.Core.Logic.{◌⊎◌, inl, inr}
 use native.Mathlib.Decide.{ℕ_discrete}
 use native.Mathlib.Omega.{arith}
 use borrow.Author.Tests.{not-false}
+use Rattle.std.proofs.Common.{Option, Some}
 use lib.ListN.{length, get_or, set, length-set}
 use lib.Seq.{get_or-set_same, get_or-set_other}
 use Rattle.blocks.specs.Folds.{count_below}
@@ -91,7 +92,7 @@ module _ (N : ℕ) (P : Bool → ℕ → Type 0) (low : (q : Bool) (n : ℕ) →
         → Reached met before q n (onward n (goes x T))
     goes_on T rec (Word x) e l = asked-on true x (T true x) e (rec true x l)
     goes_on T rec (Ready x) e l = asked-on false x (T false x) e (rec false x l)
-    goes_on T rec (End e') e l = noted (stop e') tt tt (omega arith) tt (inl e)
+    goes_on T rec (End e') e l = noted (stop e') tt tt (omega arith) tt (inl (e', e, refl))
 
   -- the met channels are those before
   seen_more : (met : List Bool) (before : List ℕ) (n : ℕ) → ((x : ℕ) → x < N → get_or met x false ≡ true → Stands x before) → (x : ℕ) → x < N
@@ -120,10 +121,10 @@ module _ (N : ℕ) (P : Bool → ℕ → Type 0) (low : (q : Bool) (n : ℕ) →
           (rec (omega (arith, room, remain_falls met n (low q n h) (omega (arith, long, low q n h)) e))) (next q n) refl (leads q n h)
 
   -- how a chain that runs by the rules ends: where a channel of it is met again, or after its last channel, whose question nobody is handed
-  pub ends_of : (chain front before : List ℕ) (q : Bool) (c : ℕ) (xs : List ℕ) (e : Ending) → chain ≡ front ++ (c ∷ xs) → ((y : ℕ) → Stands y before → Stands y chain)
+  pub ends_of : (chain front before : List ℕ) (q : Bool) (c : ℕ) (xs : List ℕ) (e : Option Ending) → chain ≡ front ++ (c ∷ xs) → ((y : ℕ) → Stands y before → Stands y chain)
       → ((y : ℕ) → Stands y (c ∷ xs) → Stands y chain) → P q c → Runs next before q c xs e
-      → ((x : ℕ) × (e ≡ Circle x) × Stands x chain) ⊎ ((p : Bool) × (n : ℕ) × P p n × (next p n ≡ End e) × (f : List ℕ) × (chain ≡ f ++ (n ∷ [])))
-  ends_of chain front before q c [] e is old here h (inl z) = inr (q, c, h, z, front, is)
+      → ((x : ℕ) × (e ≡ Some (Circle x)) × Stands x chain) ⊎ ((p : Bool) × (n : ℕ) × P p n × (a : Ending) × (next p n ≡ End a) × (e ≡ Some a) × (f : List ℕ) × (chain ≡ f ++ (n ∷ [])))
+  ends_of chain front before q c [] e is old here h (inl z) = inr (q, c, h, z.0, z.1, z.2, front, is)
   ends_of chain front before q c [] e is old here h (inr z) = inl (z.1, z.3, by z.4)
     where
       by : Stands z.1 (c ∷ before) → Stands z.1 chain

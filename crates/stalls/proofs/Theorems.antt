@@ -5,7 +5,7 @@ use mathlib.Core.Path.{◌≡◌, refl, sym, ap, subst, ◌∙◌}
 use mathlib.Core.Bool.{Bool, true, false, cond, not, ◌&&◌}
 use mathlib.Core.List.{List, [], ◌∷◌, ◌++◌}
 use mathlib.Core.Logic.{◌⊎◌, inl, inr}
-use mathlib.Core.Option.{Option, none, some}
+use Rattle.std.proofs.Common.{Option, Some, None}
 use native.Mathlib.Omega.{arith}
 use borrow.Author.Tests.{lt-ltb, not-true}
 use lib.Dec.{ltb, eqb}
@@ -18,13 +18,12 @@ use Rattle.blocks.specs.Asking.{needs, looks, handed}
 use Rattle.blocks.specs.declared.Sig.{Sig}
 use Rattle.blocks.specs.declared.Reg.{Reg}
 use Rattle.blocks.proofs.Folds.{clash, and_1, and_2, and_both, and_false_1, and_false_2, count_bound}
-use Rattle.blocks.proofs.Options.{none-some}
 use Rattle.blocks.proofs.Asking.{handed_cases}
 use Rattle.blocks.proofs.Numbers.{shape_plain}
 use Rattle.nets.specs.Net.{block_at}
 use Rattle.nets.specs.Verdict.{VerdictIs}
-use Rattle.nets.specs.declared.Net.{Net}
-use Rattle.nets.specs.declared.Verdict.TheVariants.{Accepted}
+use Rattle.blocks.specs.declared.Net.{Net}
+use Rattle.nets.specs.Verdict.{Accepted}
 use Rattle.nets.proofs.Nets.{size-high, channels-high, m-ok}
 use Rattle.nets.proofs.Decided.{accepted, accepted_true}
 use Rattle.cycles.specs.Streams.{mask_of, stream_of}
@@ -32,7 +31,7 @@ use Rattle.cycles.specs.Wires.{View, view_of, consumer, in_port}
 use Rattle.cycles.specs.Cycle.{Signals, signals_of, moves}
 use Rattle.cycles.specs.State.{regs_of, shape_ok}
 use Rattle.cycles.specs.Step.{refusal_by, refused_step, stepped_by, step_by}
-use Rattle.cycles.specs.declared.State.{State}
+use Rattle.blocks.specs.declared.State.{State}
 use Rattle.cycles.proofs.States.{get_d_tab}
 use Rattle.cycles.proofs.Steps.{entry_shape_lem}
 use Rattle.cycles.proofs.Joins.{inp_range, out_range, leaves, enters}
@@ -40,16 +39,16 @@ use Rattle.cycles.proofs.Solution.{solves}
 use Rattle.sim.specs.Calls.{step_of}
 use Rattle.asking.specs.Endings.{ending_of, ending_at, EndsAt}
 use Rattle.asking.specs.Questions.{goes_to, end_else, next_at}
-use Rattle.chains.specs.Chain.{Trail, stop, trail, none_met, chain_from}
+use Rattle.chains.specs.Chain.{Trail, no_trail, trail, none_met, chain_from}
 use Rattle.asking.specs.declared.Ending.{Ending}
-use Rattle.asking.specs.declared.Ending.TheVariants.{Empty, Circle, NoRule}
+use Rattle.asking.specs.declared.Ending.TheVariants.{Circle, NoRule}
 use Rattle.asking.specs.declared.Next.{Next}
 use Rattle.asking.specs.declared.Next.TheVariants.{Word, Ready, End}
 use Rattle.chains.proofs.Trails.{LeadsBy, past_leads}
 use Rattle.asking.proofs.Cases.{Asked, Sound, sound_of, no_rule_so, ends_so}
-use Rattle.stalls.specs.Calls.{asked_of, next_over, chain_of, follow_of}
+use Rattle.stalls.specs.Calls.{asked_of, next_over, chain_of}
 use Rattle.stalls.specs.Waits.{Each, Stands, Runs, Waits, port_of, EndsAtBlock, EndsSo, Answers, ChainWaits, ChainEnds, NotDelivered}
-use Rattle.stalls.proofs.Answers.{Taken, taken, not-refused}
+use Rattle.stalls.proofs.Answers.{Taken, taken, not-refused, followed_is}
 use Rattle.stalls.proofs.Paths.{Runs_so, Reached, reached, ends_of}
 
 -- ## What a block hands the question to waits
@@ -77,14 +76,14 @@ module _ (N : ℕ) (g : Signals) (K : Kind) (q : Bool) (b : ℕ) (r : Reg) (inp 
 -- ## How a chain ends at a block
 
 abbrev end_of : Next → Option Ending
-end_of (Word n) = none
-end_of (Ready n) = none
-end_of (End e) = some e
+end_of (Word n) = None
+end_of (Ready n) = None
+end_of (End e) = Some e
 
 -- the block that an ending names
 abbrev at_or : ℕ → Option Ending → ℕ
-at_or b none = b
-at_or b (some e) = ending_at e
+at_or b None = b
+at_or b (Some e) = ending_at (Some e)
 
 at_own : (b : ℕ) (K : Kind) (q : Bool) → at_or b (ending_of K q b) ≡ b
 at_own b (source xs) q = refl
@@ -113,15 +112,15 @@ module _ (K : Kind) (mask : Bool) (q : Bool) (p b : ℕ) (r : Reg) (inp out : �
   y j = Y (out j)
 
   abbrev At : Ending → Type 0
-  At e = (ending_at e ≡ b) × EndsAt K mask r ins v y q p e
+  At e = (ending_at (Some e) ≡ b) × EndsAt K mask r ins v y q p e
 
-  past_ends : (o : Option Ending) → ending_of K q b ≡ o → (n : Next) → (ending_of K q b ≡ none → (e : Ending) → end_of n ≡ some e → At e) → (e : Ending) → end_of (end_else o n) ≡ some e → At e
-  past_ends (some a) d n h e z = let k : ending_of K q b ≡ some e = d ∙ z in (ap (at_or b) (sym k) ∙ at_own b K q, ends_so mask r ins v y K q p b e k ask shows)
-  past_ends none d n h e z = h d e z
+  past_ends : (o : Option Ending) → ending_of K q b ≡ o → (n : Next) → (ending_of K q b ≡ None → (e : Ending) → end_of n ≡ Some e → At e) → (e : Ending) → end_of (end_else o n) ≡ Some e → At e
+  past_ends (Some a) d n h e z = let k : ending_of K q b ≡ Some e = d ∙ z in (ap (at_or b) (sym k) ∙ at_own b K q, ends_so mask r ins v y K q p b e k ask shows)
+  past_ends None d n h e z = h d e z
 
-  hand_ends : ending_of K q b ≡ none → (e : Ending) → end_of (goes_to inp out b (handed K r ins v y)) ≡ some e → At e
+  hand_ends : ending_of K q b ≡ None → (e : Ending) → end_of (goes_to inp out b (handed K r ins v y)) ≡ Some e → At e
   hand_ends n =
-      handed_cases K r ins v y (λ h. (e : Ending) → end_of (goes_to inp out b h) ≡ some e → At e) (λ i h k e d. none-some d) (λ j h k e d. none-some d)
+      handed_cases K r ins v y (λ h. (e : Ending) → end_of (goes_to inp out b h) ≡ Some e → At e) (λ i h k e d. cc) (λ j h k e d. cc)
       (λ lack wait e d. let z : NoRule b ≡ e = cc in subst At z (refl, no_rule_so mask r ins v y K sound q p b n ask shows lack wait))
 
   next_ends : (e : Ending) → next_at K q b r inp out X Y ≡ End e → At e
@@ -175,15 +174,16 @@ module _ (net : Net) (acc : VerdictIs net Accepted) (words ends : List ℕ) (off
         (shape_plain (block_at net b).m (block_at net b).value (stream_of net words ends b) (regs_of s b) (block_at net b).kind
         ∙ entry_shape_lem net s shape b (omega (arith, l, size-high net acc.0.fields)) l)
 
-    ends_there : (t : Trail) (q : Bool) (c : ℕ) → Q q c → (front : List ℕ) → t.channels ≡ front ++ (c ∷ []) → next q c ≡ End t.ending → EndsAtBlock net words ends offer ready g (regs_of s) t
-    ends_there t q c h front is z =
+    ends_there : (t : Trail) (q : Bool) (c : ℕ) → Q q c → (front : List ℕ) → t.channels ≡ front ++ (c ∷ []) → (e : Ending) → next q c ≡ End e → t.ending ≡ Some e
+        → EndsAtBlock net words ends offer ready g (regs_of s) t
+    ends_there t q c h front is e z ended =
         let b : ℕ = asked_of net q c in
         let l : b < net.size = asked_in q c h.0 in
         let shows = (solves net words ends acc offer ready (regs_of s)).showing b in
         let d =
         next_ends (view.kind b) (mask_of net offer ready b) q (port_of net q c) b (regs_of s b) (view.inp b) (view.out b) g.shows g.ready (sound_at b l) (why q c h)
-        (λ j k. ap (λ (x : Sig). x.valid) (shows j l k)) t.ending z in
-        record { word = q; front = front; last = c; in_order = is; lacks = h.1; inside = l; named = d.0; so = d.1 }
+        (λ j k. ap (λ (x : Sig). x.valid) (shows j l k)) e z in
+        record { word = q; front = front; last = c; in_order = is; lacks = h.1; inside = l; named = ap ending_at ended ∙ d.0; how = e; is = ended; so = d.1 }
 
   -- ## From a channel of the net
 
@@ -227,7 +227,7 @@ module _ (net : Net) (acc : VerdictIs net Accepted) (words ends : List ℕ) (off
     unfolding chain_from
     waits = by (g.shows c).valid (g.ready c) refl refl
       where
-        by : (v y : Bool) → (g.shows c).valid ≡ v → g.ready c ≡ y → Waits net g next c (cond v (cond y (stop Empty) (trail 128 next none_met false c)) (trail 128 next none_met true c))
+        by : (v y : Bool) → (g.shows c).valid ≡ v → g.ready c ≡ y → Waits net g next c (cond v (cond y no_trail (trail 128 next none_met false c)) (trail 128 next none_met true c))
         by true true e d = record { waiting = tt; once = tt; few = omega arith; empty = λ m. refl; begins = λ m. clash (delivers e d) m }
         by true false e d = waits-from false (l, (e, d)) (ap not e)
         by false y e d = waits-from true (l, e) (ap not e)
@@ -241,17 +241,18 @@ module _ (net : Net) (acc : VerdictIs net Accepted) (words ends : List ℕ) (off
           t : Trail
           t = trail 128 next none_met q c
 
-          by : ((x : ℕ) × (t.ending ≡ Circle x) × Stands x t.channels) ⊎ ((p : Bool) × (n : ℕ) × Q p n × (next p n ≡ End t.ending) × (f : List ℕ) × (t.channels ≡ f ++ (n ∷ [])))
+          by : ((x : ℕ) × (t.ending ≡ Some (Circle x)) × Stands x t.channels)
+              ⊎ ((p : Bool) × (n : ℕ) × Q p n × (a : Ending) × (next p n ≡ End a) × (t.ending ≡ Some a) × (f : List ℕ) × (t.channels ≡ f ++ (n ∷ [])))
               → EndsSo net words ends offer ready g (regs_of s) t
           by (inl z) = inl z
-          by (inr z) = inr (ends_there shape t z.0 z.1 z.2 z.4 z.5 z.3)
+          by (inr z) = inr (ends_there shape t z.0 z.1 z.2 z.6 z.7 z.3 z.4 z.5)
 
       ends-so-from : moves net g c ≡ false → EndsSo net words ends offer ready g (regs_of s) (chain_of net s words ends offer ready c)
       unfolding chain_from
       ends-so-from m = by (g.shows c).valid (g.ready c) refl refl
         where
           by : (v y : Bool) → (g.shows c).valid ≡ v → g.ready c ≡ y
-              → EndsSo net words ends offer ready g (regs_of s) (cond v (cond y (stop Empty) (trail 128 next none_met false c)) (trail 128 next none_met true c))
+              → EndsSo net words ends offer ready g (regs_of s) (cond v (cond y no_trail (trail 128 next none_met false c)) (trail 128 next none_met true c))
           by true true e d = clash (delivers e d) m
           by true false e d = ends-from false (l, (e, d))
           by false y e d = ends-from true (l, e)
@@ -259,10 +260,9 @@ module _ (net : Net) (acc : VerdictIs net Accepted) (words ends : List ℕ) (off
 -- ## Of every call that is not refused
 
 pub answers : Answers
-unfolding follow_of
 answers net s words ends offer ready c e =
     let k : Taken net s words ends offer ready c = taken net s words ends offer ready c e in
-    rw k.net-ok (sym (not-refused net s words ends offer ready c k.shape k.fit k.low))
+    sym (not-refused net s words ends offer ready c k.shape k.fit k.low ∙ followed_is net s words ends offer ready c k.net-ok)
 
 -- "The answer is the channels in order, each once": no channel of the chain delivers in that cycle, none stands twice, there are at most as many as the net has, each is handed
 -- on by the rules to the next; "if the beginning channel delivers, the chain is empty", and only then.

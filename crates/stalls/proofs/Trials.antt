@@ -4,6 +4,7 @@ use Prim.Native.Nat.{ℕ}
 use mathlib.Core.Path.{◌≡◌, refl}
 use mathlib.Core.Bool.{true}
 use mathlib.Core.List.{List, [], ◌∷◌}
+use Rattle.std.proofs.Common.{Some, None}
 use lib.ListN.{replicate}
 use Rattle.blocks.specs.Folds.{all_below, count_below, lowest, bit}
 use Rattle.blocks.specs.Ports.{ports_of}
@@ -15,8 +16,8 @@ use Rattle.nets.proofs.Trials.{line}
 use Rattle.cycles.specs.Streams.{ends_fit}
 use Rattle.cycles.specs.Cycle.{signals}
 use Rattle.cycles.specs.State.{tab, fresh_state, shape_ok}
-use Rattle.cycles.specs.declared.State.{State}
-use Rattle.asking.specs.declared.Ending.TheVariants.{Empty, IdleSource, UnreadySink, EmptyBuffer}
+use Rattle.blocks.specs.declared.State.{State}
+use Rattle.asking.specs.declared.Ending.TheVariants.{IdleSource, UnreadySink, EmptyBuffer}
 use Rattle.chains.specs.Chain.{Trail, trail, chain_from}
 use Rattle.stalls.specs.Calls.{chain_of, chain_refusal}
 
@@ -33,14 +34,14 @@ held = record { count = 1; words = 0 ∷ 7 ∷ replicate 62 0; marks = 0 ∷ 1 �
 
 -- in the first cycle the source's word goes into the buffer, and channel 2 waits for the buffer's; where the source offers nothing, channel 0 waits for it
 pub line_waits :
-    (line_chain (fresh_state line) all all 0 ≡ record { channels = []; ending = Empty })
-    × (line_chain (fresh_state line) all all 2 ≡ record { channels = 2 ∷ 1 ∷ []; ending = EmptyBuffer 1 })
-    × (line_chain (fresh_state line) 0 all 0 ≡ record { channels = 0 ∷ []; ending = IdleSource 0 })
+    (line_chain (fresh_state line) all all 0 ≡ record { channels = []; ending = None })
+    × (line_chain (fresh_state line) all all 2 ≡ record { channels = 2 ∷ 1 ∷ []; ending = Some (EmptyBuffer 1) })
+    × (line_chain (fresh_state line) 0 all 0 ≡ record { channels = 0 ∷ []; ending = Some (IdleSource 0) })
 unfolding ends_fit tab signals place_of count_below kind_count ports_of ins outs on_side bit lowest handed trail chain_from
 line_waits = (refl, refl, refl)
 
 -- with the buffer full and the sink not ready, the source's word waits for the sink, along every channel
-pub line_held : (line_chain held all 0 0 ≡ record { channels = 0 ∷ 1 ∷ 2 ∷ []; ending = UnreadySink 3 }) × (line_chain held all all 0 ≡ record { channels = []; ending = Empty })
+pub line_held : (line_chain held all 0 0 ≡ record { channels = 0 ∷ 1 ∷ 2 ∷ []; ending = Some (UnreadySink 3) }) × (line_chain held all all 0 ≡ record { channels = []; ending = None })
 unfolding ends_fit tab signals place_of count_below kind_count ports_of ins outs on_side bit lowest handed trail chain_from operate
 line_held = (refl, refl)
 

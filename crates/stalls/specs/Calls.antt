@@ -1,19 +1,18 @@
 -- What the call `follow` answers (change request 9): the chain over the signals of the very cycle that `step` would work, and its refusals.
 -- Assumes nothing.
-use Rattle.std.specs.Prelude.{ℕ, Bool, false, cond, not, List, map, leb, eqb, length, replicate}
+use Rattle.std.specs.Prelude.{ℕ, Bool, false, cond, not, List, map, leb, eqb, length, replicate, None}
 use Rattle.std.proofs.lemmas.List.Edits.{sets}
 use Rattle.blocks.specs.Signals.{valid_at}
 use Rattle.blocks.specs.declared.Reg.{Reg}
-use Rattle.nets.specs.declared.Net.{Net}
+use Rattle.blocks.specs.declared.Net.{Net}
 use Rattle.nets.proofs.Decided.{accepted}
 use Rattle.cycles.specs.Streams.{ends_fit}
 use Rattle.cycles.specs.Wires.{view_of, producer, consumer}
 use Rattle.cycles.specs.Cycle.{Signals, signals_of}
 use Rattle.cycles.specs.State.{regs_of, shape_ok}
-use Rattle.cycles.specs.declared.State.{State}
+use Rattle.blocks.specs.declared.State.{State}
 use Rattle.asking.specs.Questions.{next_at}
 use Rattle.chains.specs.Chain.{Trail, chain_from}
-use Rattle.asking.specs.declared.Ending.TheVariants.{Empty}
 use Rattle.asking.specs.declared.Next.{Next}
 use Rattle.stalls.specs.declared.Chain.{Chain}
 
@@ -55,7 +54,7 @@ chain_by v t =
     }
 
 abbrev pub no_chain : ℕ → Chain
-no_chain n = record { refusal = n; count = 0; channels = replicate 128 0; valid = replicate 128 false; ending = Empty }
+no_chain n = record { refusal = n; count = 0; channels = replicate 128 0; valid = replicate 128 false; ending = None }
 
 abbrev pub answer_of : Net → State → List ℕ → List ℕ → ℕ → ℕ → ℕ → Chain
 answer_of net s words ends offer ready c =

@@ -1,19 +1,19 @@
 -- What is promised of a chain (change request 9): its channels wait, each is handed on by the rules to the next, and its ending is what its name says.
 -- Assumes nothing.
-use Rattle.std.specs.Prelude.{ℕ, ◌≤◌, ◌<◌, ◌≡◌, Bool, true, false, cond, not, List, [], ◌∷◌, ◌++◌, ◌⊎◌, length, get_or}
+use Rattle.std.specs.Prelude.{ℕ, ◌≤◌, ◌<◌, ◌≡◌, Bool, true, false, cond, not, List, [], ◌∷◌, ◌++◌, ◌⊎◌, length, get_or, Option, Some}
 use Rattle.blocks.specs.declared.Reg.{Reg}
-use Rattle.nets.specs.declared.Net.{Net}
+use Rattle.blocks.specs.declared.Net.{Net}
 use Rattle.cycles.specs.Streams.{mask_of}
 use Rattle.cycles.specs.Wires.{view_of, out_port, in_port}
 use Rattle.cycles.specs.Cycle.{Signals, signals_of, moves}
 use Rattle.cycles.specs.State.{regs_of}
-use Rattle.cycles.specs.declared.State.{State}
+use Rattle.blocks.specs.declared.State.{State}
 use Rattle.sim.specs.Calls.{step_of}
 use Rattle.asking.specs.Endings.{ending_at, EndsAt}
 use Rattle.asking.specs.Questions.{asks}
-use Rattle.chains.specs.Chain.{Trail, stop}
+use Rattle.chains.specs.Chain.{Trail, no_trail}
 use Rattle.asking.specs.declared.Ending.{Ending}
-use Rattle.asking.specs.declared.Ending.TheVariants.{Empty, Circle}
+use Rattle.asking.specs.declared.Ending.TheVariants.{Circle}
 use Rattle.asking.specs.declared.Next.{Next}
 use Rattle.asking.specs.declared.Next.TheVariants.{End}
 use Rattle.stalls.specs.Calls.{asked_of, next_over, chain_of, answer_of, follow_of}
@@ -38,8 +38,9 @@ Stands c (x ∷ xs) = (c ≡ x) ⊎ Stands c xs
 
 -- From channel c, asked for its word (q true) or for readiness after the channels `before` (the last one first), the rules name the channels xs one after another, and then
 -- end with e: no further channel, or one that is met again.
-abbrev pub Runs : (Bool → ℕ → Next) → List ℕ → Bool → ℕ → List ℕ → Ending → Type 0
-Runs next before q c [] e = (next q c ≡ End e) ⊎ ((p : Bool) × (x : ℕ) × (next q c ≡ asks p x) × (e ≡ Circle x) × Stands x (c ∷ before))
+abbrev pub Runs : (Bool → ℕ → Next) → List ℕ → Bool → ℕ → List ℕ → Option Ending → Type 0
+Runs next before q c [] e =
+    ((a : Ending) × (next q c ≡ End a) × (e ≡ Some a)) ⊎ ((p : Bool) × (x : ℕ) × (next q c ≡ asks p x) × (e ≡ Some (Circle x)) × Stands x (c ∷ before))
 Runs next before q c (x ∷ xs) e = (p : Bool) × (next q c ≡ asks p x) × Runs next (c ∷ before) p x xs e
 
 -- the chain t from channel c, where the signals are g
@@ -49,7 +50,7 @@ pub record Waits (net : Net) (g : Signals) (next : Bool → ℕ → Next) (c : �
   pub once : Once t.channels
   pub few : length t.channels ≤ net.channels
   -- empty where the beginning channel delivers
-  pub empty : moves net g c ≡ true → t ≡ stop Empty
+  pub empty : moves net g c ≡ true → t ≡ no_trail
   -- else it begins there: the channel is asked for its word if it lacks V, else for readiness, and each channel is handed on by the rules to the next
   pub begins : moves net g c ≡ false → (rest : List ℕ) × (t.channels ≡ c ∷ rest) × Runs next [] (not (g.shows c).valid) c rest t.ending
 
@@ -68,14 +69,16 @@ pub record EndsAtBlock (net : Net) (words ends : List ℕ) (offer ready : ℕ) (
   pub lacks : cond word ((g.shows last).valid ≡ false) (((g.shows last).valid ≡ true) × (g.ready last ≡ false))
   pub inside : asked_of net word last < net.size
   pub named : ending_at t.ending ≡ asked_of net word last
+  pub how : Ending
+  pub is : t.ending ≡ Some how
   pub so :
       EndsAt ((view_of net words ends).kind (asked_of net word last)) (mask_of net offer ready (asked_of net word last)) (r (asked_of net word last))
       (λ i. g.shows ((view_of net words ends).inp (asked_of net word last) i)) (λ j. (g.shows ((view_of net words ends).out (asked_of net word last) j)).valid)
-      (λ j. g.ready ((view_of net words ends).out (asked_of net word last) j)) word (port_of net word last) t.ending
+      (λ j. g.ready ((view_of net words ends).out (asked_of net word last) j)) word (port_of net word last) how
 
 -- a channel of the chain is met again, or it ends at a block
 abbrev pub EndsSo : Net → List ℕ → List ℕ → ℕ → ℕ → Signals → (ℕ → Reg) → Trail → Type 0
-EndsSo net words ends offer ready g r t = ((x : ℕ) × (t.ending ≡ Circle x) × Stands x t.channels) ⊎ EndsAtBlock net words ends offer ready g r t
+EndsSo net words ends offer ready g r t = ((x : ℕ) × (t.ending ≡ Some (Circle x)) × Stands x t.channels) ⊎ EndsAtBlock net words ends offer ready g r t
 
 -- ## Of every call that is not refused
 

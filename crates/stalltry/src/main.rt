@@ -3,37 +3,59 @@
 // commands of four numbers each, a command and what it is given.
 #![tactic(auto)]
 
-ghost use Rattle.std.specs.Prelude.{◌≡◌, ◌+◌, ◌*◌, ◌≤◌, ◌<◌, length};
+ghost use Rattle.std.specs.Prelude.{◌≤◌, length};
 
 use cycles::State;
 use nets::Net;
 use stalls::Chain;
 use trace::numbers::number_at;
+use trials::{FORK_ENDS, FORK_FORM, FORK_WORDS, Streams, with_marks, with_word};
 
-// As many channels as a chain can have.
-const CHANNELS: usize = 128;
+// The channels that a net can have.
+const CHANNELS: u32 = 128;
 
 // The cycles that a state has.
 const CYCLES: u32 = 1048576;
 
-// The commands. A step, given offer and ready.
-const STEP: u32 = 0;
-// A question, given offer, ready and the channel.
-const ASK: u32 = 1;
-// A question at each channel that a net can have, given offer and ready.
-const ASK_ALL: u32 = 2;
-// The fresh state of the net.
-const FRESH: u32 = 3;
-// Set the net's channels; the state's count; given a block, its word or its marks.
-const SET_CHANNELS: u32 = 4;
+// The bytes of a command.
+const COMMAND_BYTES: usize = 16;
 
-const SET_COUNT: u32 = 5;
-
-const SET_WORD: u32 = 6;
-
-const SET_MARKS: u32 = 7;
-// Sets how many of the ends are lent to a call at most.
-const LEND: u32 = 8;
+// A command, with what it is given.
+#[derive(Clone, Copy)]
+enum Command {
+    Step {
+        offer: u32,
+        ready: u32,
+    },
+    // A question at a channel.
+    Ask {
+        offer: u32,
+        ready: u32,
+        channel: u32,
+    },
+    // A question at each channel that a net can have.
+    AskAll {
+        offer: u32,
+        ready: u32,
+    },
+    // The fresh state of the net.
+    Fresh,
+    // Set the net's channels; the state's count; the word or the marks of the block with this number modulo 64.
+    SetChannels(u8),
+    SetCount(u32),
+    SetWord {
+        block: u32,
+        word: u32,
+    },
+    SetMarks {
+        block: u32,
+        mark: u8,
+    },
+    // Sets how many of the ends are lent to a call at most.
+    Lend(usize),
+    // A number that is no command's.
+    Nothing,
+}
 
 // What commands change.
 #[derive(Clone, Copy)]
@@ -43,49 +65,26 @@ struct Trial {
     lent: usize,
 }
 
-// ---- Printing
+// ---- Printing. A write that fails is passed over.
 
-// Prints a text and a number. A write that fails is passed over.
-fn print(rt: &impl Print, text: &str, n: u64) {
-    let _ = print!(rt; "{text}{n}");
-}
-
-// Prints a text and a byte's number.
-fn print_byte(rt: &impl Print, text: &str, b: u8) {
-    print(rt, text, b as u64);
-}
-
-// Ends a line.
-fn end_line(rt: &impl Print) {
-    let _ = println!(rt);
-}
-
-// Prints a channel of a chain: `v` after one that lacks V, `r` after one that has V and lacks R.
-fn show_channel(rt: &impl Print, channel: u8, valid: bool) {
-    let lacking = if valid { "r" } else { "v" };
-    let _ = print!(rt; " {channel}{lacking}");
-}
-
-// Prints the channels of a chain.
+// Prints the channels of a chain: `v` after one that lacks V, `r` after one that has V and lacks R.
 fn show_channels(rt: &impl Print, chain: Chain) {
-    for i in 0..CHANNELS {
-        if i < chain.count {
-            show_channel(rt, chain.channels[i], chain.valid[i]);
-        }
+    for (channel, valid) in chain.channels.iter().zip(&chain.valid).take(chain.count) {
+        let lacking = if *valid { "r" } else { "v" };
+        let _ = print!(rt; " {channel}{lacking}");
     }
 }
 
 // Prints a chain and its ending, or the refusal of the question.
 fn show(rt: &impl Print, channel: u32, chain: Chain) {
-    print(rt, "ask ", channel as u64);
-    print_byte(rt, ": refusal ", chain.refusal);
+    let _ = print!(rt; "ask {channel}: refusal {}", chain.refusal);
     if chain.refusal == 0 {
         show_channels(rt, chain);
-        let ending = chain.ending;
-        print_byte(rt, " ending ", asking::number_of(ending));
-        print_byte(rt, " at ", asking::named_by(ending));
+        let number = asking::number_of(chain.ending);
+        let named = asking::named_by(chain.ending);
+        let _ = print!(rt; " ending {number} at {named}");
     }
-    end_line(rt);
+    let _ = println!(rt);
 }
 
 // ---- Calls, shown
@@ -93,301 +92,244 @@ fn show(rt: &impl Print, channel: u32, chain: Chain) {
 // A fresh state, its refusal shown.
 fn begun(rt: &impl Print, net: Net) -> State {
     let fresh = sim::step::fresh(net);
-    print_byte(rt, "fresh ", fresh.refusal);
-    end_line(rt);
+    let _ = println!(rt; "fresh {}", fresh.refusal);
     fresh.state
 }
 
 // The state after a step, its refusal shown.
+// stays: hands on what a call takes, as the call takes it.
 fn stepped(
     rt: &impl Print,
     net: Net,
     state: State,
-    words: &[u32],
-    ends: &[u32],
+    streams: Streams,
     offer: u32,
     ready: u32,
 ) -> State {
-    let answer = sim::step::step(net, state, words, ends, offer, ready);
-    print_byte(rt, "step: refusal ", answer.refusal);
-    end_line(rt);
+    let answer = sim::step::step(net, state, streams.words, streams.ends, offer, ready);
+    let _ = println!(rt; "step: refusal {}", answer.refusal);
     answer.state
 }
 
 // The chain from a channel, shown.
+// stays: hands on what a call takes, as the call takes it.
 fn ask(
     rt: &impl Print,
     net: Net,
     state: State,
-    words: &[u32],
-    ends: &[u32],
+    streams: Streams,
     offer: u32,
     ready: u32,
     channel: u32,
 ) {
-    let chain = stalls::follow::follow(net, state, words, ends, offer, ready, channel);
+    let chain = stalls::follow::follow(
+        net,
+        state,
+        streams.words,
+        streams.ends,
+        offer,
+        ready,
+        channel,
+    );
     show(rt, channel, chain);
 }
 
 // The chain from each channel that a net can have, shown.
-fn ask_all(
-    rt: &impl Print,
-    net: Net,
-    state: State,
-    words: &[u32],
-    ends: &[u32],
-    offer: u32,
-    ready: u32,
-) {
-    for c in 0..CHANNELS {
-        ask(rt, net, state, words, ends, offer, ready, c as u32);
+// stays: hands on what a call takes, as the call takes it.
+fn ask_all(rt: &impl Print, net: Net, state: State, streams: Streams, offer: u32, ready: u32) {
+    for channel in 0..CHANNELS {
+        ask(rt, net, state, streams, offer, ready, channel);
     }
-}
-
-// ---- Values out of range
-
-// The net with another number of channels.
-fn with_channels(net: Net, channels: u8) -> Net {
-    let mut after = net;
-    after.channels = channels;
-    after
-}
-
-// The state with another count.
-fn with_count(state: State, count: u32) -> State {
-    let mut after = state;
-    after.count = count;
-    after
-}
-
-// The state with another word register.
-fn with_word(state: State, block: usize, word: u32) -> State
-    requires { block < 64 }
-{
-    let mut after = state;
-    let mut words = state.words;
-    words[block] = word;
-    after.words = words;
-    after
-}
-
-// The state with other marks of a block.
-fn with_marks(state: State, block: usize, mark: u8) -> State
-    requires { block < 64 }
-{
-    let mut after = state;
-    let mut marks = state.marks;
-    marks[block] = mark;
-    after.marks = marks;
-    after
 }
 
 // ---- A file of calls
 
-// The net after a command.
-fn altered(net: Net, op: u32, a: u32) -> Net {
-    if op == SET_CHANNELS {
-        return with_channels(net, (a % 256) as u8);
-    }
-    net
-}
-
-// The state after a command that changes a part of it.
-fn changed(state: State, op: u32, a: u32, b: u32) -> State {
-    let block = (a % 64) as usize;
-    if op == SET_COUNT {
-        return with_count(state, a);
-    }
-    if op == SET_WORD {
-        return with_word(state, block, b);
-    }
-    if op == SET_MARKS {
-        return with_marks(state, block, (b % 256) as u8);
-    }
-    state
-}
-
-// The state after a command.
-fn obeyed(
-    rt: &impl Print,
-    net: Net,
-    state: State,
-    words: &[u32],
-    ends: &[u32],
-    op: u32,
-    a: u32,
-    b: u32,
-    c: u32,
-) -> State {
-    if op == STEP {
-        return stepped(rt, net, state, words, ends, a, b);
-    }
-    if op == ASK {
-        ask(rt, net, state, words, ends, a, b, c);
-        return state;
-    }
-    if op == ASK_ALL {
-        ask_all(rt, net, state, words, ends, a, b);
-        return state;
-    }
-    if op == FRESH {
-        return begun(rt, net);
-    }
-    changed(state, op, a, b)
-}
-
-// The state after a command to whose call at most so many ends are lent.
-fn obeyed_over(
-    rt: &impl Print,
-    net: Net,
-    state: State,
-    words: &[u32],
-    ends: &[u32],
-    lent: usize,
-    op: u32,
-    a: u32,
-    b: u32,
-    c: u32,
-) -> State {
-    if lent < ends.len() {
-        return obeyed(rt, net, state, words, &ends[..lent], op, a, b, c);
-    }
-    obeyed(rt, net, state, words, ends, op, a, b, c)
-}
-
-// How many ends are lent at most after a command.
-fn lent_after(before: usize, op: u32, a: u32) -> usize {
-    if op == LEND { a as usize } else { before }
-}
-
-// What command i leaves.
-fn commanded(
-    rt: &impl Print,
-    before: Trial,
-    words: &[u32],
-    ends: &[u32],
-    commands: &[u8],
-    i: usize,
-) -> Trial
-    requires { 16 * i + 16 ≤ length commands.now }
+// The command in a file's bytes.
+fn command_in(bytes: &[u8]) -> Command
+    requires { 16 ≤ length bytes.now }
 {
-    let op = number_at(commands, 4 * i);
-    let a = number_at(commands, 4 * i + 1);
-    let b = number_at(commands, 4 * i + 2);
-    let c = number_at(commands, 4 * i + 3);
-    let net = altered(before.net, op, a);
-    let lent = lent_after(before.lent, op, a);
-    let state = obeyed_over(rt, net, before.state, words, ends, lent, op, a, b, c);
-    Trial { net, state, lent }
+    let a = number_at(bytes, 1);
+    let b = number_at(bytes, 2);
+    match number_at(bytes, 0) {
+        0 => Command::Step { offer: a, ready: b },
+        1 => Command::Ask {
+            offer: a,
+            ready: b,
+            channel: number_at(bytes, 3),
+        },
+        2 => Command::AskAll { offer: a, ready: b },
+        3 => Command::Fresh,
+        4 => Command::SetChannels((a % 256) as u8),
+        5 => Command::SetCount(a),
+        6 => Command::SetWord { block: a, word: b },
+        7 => Command::SetMarks {
+            block: a,
+            mark: (b % 256) as u8,
+        },
+        8 => Command::Lend(a as usize),
+        _ => Command::Nothing,
+    }
+}
+
+// What a command leaves.
+fn obeyed(rt: &impl Print, before: Trial, all: Streams, command: Command) -> Trial {
+    let net = before.net;
+    let state = before.state;
+    let streams = all.lent(before.lent);
+    match command {
+        Command::Step { offer, ready } => Trial {
+            state: stepped(rt, net, state, streams, offer, ready),
+            ..before
+        },
+        Command::Ask {
+            offer,
+            ready,
+            channel,
+        } => {
+            ask(rt, net, state, streams, offer, ready, channel);
+            before
+        }
+        Command::AskAll { offer, ready } => {
+            ask_all(rt, net, state, streams, offer, ready);
+            before
+        }
+        Command::Fresh => Trial {
+            state: begun(rt, net),
+            ..before
+        },
+        _ => changed(before, command),
+    }
+}
+
+// What a command leaves that changes a value.
+fn changed(before: Trial, command: Command) -> Trial {
+    let state = before.state;
+    match command {
+        Command::SetChannels(channels) => Trial {
+            net: Net {
+                channels,
+                ..before.net
+            },
+            ..before
+        },
+        Command::SetCount(count) => Trial {
+            state: State { count, ..state },
+            ..before
+        },
+        Command::SetWord { block, word } => Trial {
+            state: with_word(state, (block % 64) as usize, word),
+            ..before
+        },
+        Command::SetMarks { block, mark } => Trial {
+            state: with_marks(state, (block % 64) as usize, mark),
+            ..before
+        },
+        Command::Lend(lent) => Trial { lent, ..before },
+        _ => before,
+    }
 }
 
 // Obeys the commands from a fresh state on, with all ends lent.
-fn obey(rt: &impl Print, net: Net, words: &[u32], ends: &[u32], commands: &[u8]) {
-    let state = begun(rt, net);
+fn obey(rt: &impl Print, net: Net, streams: Streams, commands: &[u8]) {
     let mut trial = Trial {
         net,
-        state,
-        lent: ends.len(),
+        state: begun(rt, net),
+        lent: streams.ends.len(),
     };
-    let count = commands.len() / 16;
-    for i in 0..count {
-        trial = commanded(rt, trial, words, ends, commands, i);
+    for i in 0..commands.len() / COMMAND_BYTES {
+        let command = command_in(&commands[COMMAND_BYTES * i..]);
+        trial = obeyed(rt, trial, streams, command);
     }
 }
 
 // Runs the calls of a file.
+// stays: what baytry has in its place calls its own `obey`; handed over as a closure, that call would need clauses of its own.
 fn run_file(rt: &impl Print, file: &[u8]) {
-    let case = cases::read_case(file);
-    if !case.good {
+    let Some(case) = cases::read_case(file) else {
         let _ = println!(rt; "bad case");
         return;
-    }
-    let form_at = case.form_at;
-    let form_end = case.form_end;
-    let rest_at = case.rest_at;
-    let word_count = case.word_count;
-    let end_count = case.end_count;
-    let words = case.words;
-    let ends = case.ends;
-    let loaded = forms::load(&file[form_at..form_end]);
-    print_byte(rt, "load ", loaded.refusal);
-    end_line(rt);
-    let net = loaded.net;
-    obey(
-        rt,
-        net,
-        &words[..word_count],
-        &ends[..end_count],
-        &file[rest_at..],
-    );
+    };
+    let mut words = [0u32; cases::MOST_WORDS];
+    let mut ends = [0u32; cases::MOST_ENDS];
+    let n = cases::put_numbers(case.words, &mut words);
+    let m = cases::put_numbers(case.ends, &mut ends);
+    let loaded = forms::load(case.form);
+    let _ = println!(rt; "load {}", loaded.refusal);
+    let streams = Streams {
+        words: &words[..n],
+        ends: &ends[..m],
+    };
+    obey(rt, loaded.net, streams, case.rest);
 }
 
 // ---- A fork of 2 before two sinks
 
 // All goes: channel 1 delivers. The second sink is not ready: it keeps channels 0 and 2, and channel 1 delivers. The source offers nothing: channel 2 waits for it.
-fn first_cycle(rt: &impl Print, net: Net, state: State, words: &[u32], ends: &[u32]) {
-    ask(rt, net, state, words, ends, 1, 3, 1);
-    ask(rt, net, state, words, ends, 1, 1, 0);
-    ask(rt, net, state, words, ends, 1, 1, 1);
-    ask(rt, net, state, words, ends, 1, 1, 2);
-    ask(rt, net, state, words, ends, 0, 3, 2);
+fn first_cycle(rt: &impl Print, net: Net, state: State, streams: Streams) {
+    ask(rt, net, state, streams, 1, 3, 1);
+    for channel in 0..3 {
+        ask(rt, net, state, streams, 1, 1, channel);
+    }
+    ask(rt, net, state, streams, 0, 3, 2);
 }
 
 // Two cycles in which the second sink is not ready: the first copy has gone, so channel 1 has no word until the second one goes.
-fn stalled(rt: &impl Print, net: Net, state: State, words: &[u32], ends: &[u32]) -> State {
-    let after = stepped(rt, net, state, words, ends, 1, 1);
-    let last = stepped(rt, net, after, words, ends, 1, 1);
-    ask(rt, net, last, words, ends, 1, 1, 1);
+fn stalled(rt: &impl Print, net: Net, state: State, streams: Streams) -> State {
+    let after = stepped(rt, net, state, streams, 1, 1);
+    let last = stepped(rt, net, after, streams, 1, 1);
+    ask(rt, net, last, streams, 1, 1, 1);
     last
 }
 
 // Questions that are refused, by what is tested last first: a channel at the count and one beyond a byte; four ends for one source; both copies of the fork marked; the zero net, which is what
 // a form without bytes gives.
-fn refused(rt: &impl Print, net: Net, state: State, words: &[u32], ends: &[u32]) {
-    ask(rt, net, state, words, ends, 1, 1, 3);
-    ask(rt, net, state, words, ends, 1, 1, 256);
-    ask(rt, net, state, words, words, 1, 1, 256);
+fn refused(rt: &impl Print, net: Net, state: State, streams: Streams) {
+    ask(rt, net, state, streams, 1, 1, 3);
+    ask(rt, net, state, streams, 1, 1, 256);
+    let four_ends = Streams {
+        words: streams.words,
+        ends: streams.words,
+    };
+    ask(rt, net, state, four_ends, 1, 1, 256);
     let spoilt = with_marks(state, 1, 3);
-    ask(rt, net, spoilt, words, words, 1, 1, 256);
-    let nothing = forms::load(b"");
-    let zero = nothing.net;
-    ask(rt, zero, spoilt, words, words, 1, 1, 256);
+    ask(rt, net, spoilt, four_ends, 1, 1, 256);
+    let zero = forms::load(b"").net;
+    ask(rt, zero, spoilt, four_ends, 1, 1, 256);
 }
 
 // A state that has used up its cycles: it can be asked, and no step is left.
-fn used_up(rt: &impl Print, net: Net, state: State, words: &[u32], ends: &[u32]) {
-    let full = with_count(state, CYCLES);
-    let same = stepped(rt, net, full, words, ends, 1, 1);
-    ask(rt, net, same, words, ends, 1, 1, 0);
+fn used_up(rt: &impl Print, net: Net, state: State, streams: Streams) {
+    let full = State {
+        count: CYCLES,
+        ..state
+    };
+    let same = stepped(rt, net, full, streams, 1, 1);
+    ask(rt, net, same, streams, 1, 1, 0);
 }
 
 // The demonstration: the net of steptry, over four words.
 fn show_trials(rt: &impl Print) {
-    let form = [
-        0x10u8, 0x00, 0x04, 0x03, 0x00, 0x00, 0x84, 0x00, 0x08, 0x21, 0x00, 0x22, 0x00, 0x80,
-    ];
-    let words = [10u32, 20, 30, 40];
-    let ends = [4u32];
-    let loaded = forms::load(&form);
-    let net = loaded.net;
+    let streams = Streams {
+        words: &FORK_WORDS,
+        ends: &FORK_ENDS,
+    };
+    let net = forms::load(&FORK_FORM).net;
     let state = begun(rt, net);
-    first_cycle(rt, net, state, &words, &ends);
-    let last = stalled(rt, net, state, &words, &ends);
-    refused(rt, net, last, &words, &ends);
-    used_up(rt, net, last, &words, &ends);
+    first_cycle(rt, net, state, streams);
+    let last = stalled(rt, net, state, streams);
+    refused(rt, net, last, streams);
+    used_up(rt, net, last, streams);
 }
 
 // The demonstration, or the calls of a file.
+// stays: a main that reads a file and hands it on is no longer than a call of one that is shared.
 fn main(rt: HostRuntime) {
     if !input::has_argument(&rt, 1) {
         show_trials(&rt);
         return;
     }
     let mut buf = [0u8; input::ROOM];
-    let file = input::read_form(&rt, b"stalltry", &mut buf);
-    if file.failed {
-        return;
+    if let Some(n) = input::read_form(&rt, b"stalltry", &mut buf) {
+        run_file(&rt, &buf[..n]);
     }
-    let n = file.bytes;
-    run_file(&rt, &buf[..n]);
 }

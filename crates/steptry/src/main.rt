@@ -3,6 +3,7 @@
 
 use cycles::{State, Stepped};
 use nets::Net;
+use trials::{FORK_ENDS, FORK_FORM, FORK_WORDS, with_marks};
 
 // Prints cycle, channel and word of each delivery. A write that fails is passed over.
 fn show(rt: &impl Print, cycle: u64, stepped: Stepped) {
@@ -16,21 +17,16 @@ fn show(rt: &impl Print, cycle: u64, stepped: Stepped) {
 // The ready mask of a cycle: the second sink refuses in cycles 1 to 3 and 6.
 fn ready_in(cycle: u64) -> u32 {
     match cycle {
-        1 => 1,
-        2 => 1,
-        3 => 1,
-        6 => 1,
+        1..=3 | 6 => 1,
         _ => 3,
     }
 }
 
 // The cycles of a net from a state, each from the state that the last one returned.
 fn cycles_from(rt: &impl Print, net: Net, start: State) {
-    let words = [10u32, 20, 30, 40];
-    let ends = [4u32];
     let mut state = start;
     for cycle in 0..10 {
-        let stepped = sim::step::step(net, state, &words, &ends, 1, ready_in(cycle));
+        let stepped = sim::step::step(net, state, &FORK_WORDS, &FORK_ENDS, 1, ready_in(cycle));
         show(rt, cycle, stepped);
         state = stepped.state;
     }
@@ -43,25 +39,14 @@ fn refused_steps(rt: &impl Print, net: Net, start: State) {
     let two_ends = [1u32, 2];
     let bad_ends = sim::step::step(net, start, &words, &two_ends, 1, 3);
     let _ = println!(rt; "refused {}", bad_ends.refusal);
-    let mut marks = [0u8; 64];
-    marks[1] = 3;
-    let state = State {
-        count: 0,
-        words: [0; 64],
-        marks,
-    };
+    let state = with_marks(start, 1, 3);
     let bad_state = sim::step::step(net, state, &words, &two_ends, 1, 3);
     let _ = println!(rt; "refused {}", bad_state.refusal);
 }
 
 fn main(rt: HostRuntime) {
-    let form = [
-        0x10u8, 0x00, 0x04, 0x03, 0x00, 0x00, 0x84, 0x00, 0x08, 0x21, 0x00, 0x22, 0x00, 0x80,
-    ];
-    let loaded = forms::load(&form);
-    let net = loaded.net;
-    let fresh = sim::step::fresh(net);
-    let start = fresh.state;
+    let net = forms::load(&FORK_FORM).net;
+    let start = sim::step::fresh(net).state;
     cycles_from(&rt, net, start);
     refused_steps(&rt, net, start);
 }

@@ -16,8 +16,8 @@ use Rattle.reader.proofs.Bits.{length-bits, length_bits_of, bits-number, number-
 use Rattle.blocks.specs.Ports.{m_ok, has_value}
 use Rattle.blocks.proofs.Folds.{clash, and_1, and_2}
 use Rattle.blocks.proofs.Counts.{m_most, ten_ports}
-use Rattle.nets.specs.declared.Block.{Block}
-use Rattle.nets.specs.declared.Net.{Net}
+use Rattle.blocks.specs.declared.Block.{Block}
+use Rattle.blocks.specs.declared.Net.{Net}
 use Rattle.stored.specs.Form.{port_count, padded, zero_block, Taken, got, refused, and_then, check, take_field, take_tested, between, take_many, take_port, take_value, take_rest, take_valued, take_block, take_blocks, take_counts, take_net, blank, blank_end, loaded, denied, finish, parse, put_field, put_many, put_value, put_valued, put_block, put_net, encode, bytes_of, pack, form_of}
 use Rattle.stored.specs.Sizes.{All, AreBytes}
 
@@ -92,6 +92,10 @@ along P {a} {b} {r} {s} h p =
 pub then_there : {A B : Type 0} {t : Taken A} (k : A → List Bool → Taken B) {a : A} {s : List Bool} {u : Taken B} → t ≡ got a s → k a s ≡ u → and_then t k ≡ u
 unfolding and_then
 then_there k e f = ap (λ t. and_then t k) e ∙ f
+
+pub then_refused : {A B : Type 0} {t : Taken A} (k : A → List Bool → Taken B) {e : ℕ} → t ≡ refused e → and_then t k ≡ refused e
+unfolding and_then
+then_refused k h = ap (λ t. and_then t k) h
 
 pub check_there : {A : Type 0} {t : Bool} (e : ℕ) (x : Taken A) → t ≡ true → check t e x ≡ x
 unfolding check

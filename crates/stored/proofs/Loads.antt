@@ -1,28 +1,25 @@
--- The loader's answers: the end of a form, a block's place, and the net that the blocks make.
+-- The end of a form, a block's bits, and the net that the parts of a form make.
 -- Assumes nothing.
-use Prim.Native.Nat.{ℕ, ◌+◌, ◌-◌, ◌*◌, ◌<◌, ◌≤◌}
+use Prim.Native.Nat.{ℕ, ◌+◌, ◌*◌, ◌<◌, ◌≤◌}
 use native.Mathlib.Omega.{arith}
-use mathlib.Core.Path.{◌≡◌, refl, ap, sym, ◌∙◌}
-use mathlib.Core.List.{List, [], ◌∷◌, ◌++◌}
+use mathlib.Core.Path.{◌≡◌, refl, ap, ◌∙◌}
+use mathlib.Core.List.{List, [], ◌∷◌}
 use mathlib.Core.Bool.{Bool, true, false, cond}
-use mathlib.Core.Option.{none, some}
+use Rattle.std.proofs.Common.{Some, None}
 use lib.ListN.{length, take, drop, length-append, length-take}
-use lib.Seq.{drop-drop, drop_at, take_all}
+use lib.Seq.{take_all}
 use lib.Dec.{leb, eqb}
 use lib.Pow.{pow_pos}
 use borrow.Author.Tests.{leb-false, lt-ltb, le-ltb, ne_eqb}
 use Rattle.reader.specs.Bits.{bits, number, bits_of, field_at}
 use Rattle.reader.proofs.Bits.{length-bits}
 use Rattle.blocks.specs.Ports.{has_value}
-use Rattle.nets.specs.declared.Block.{Block}
-use Rattle.nets.specs.declared.Net.{Net}
-use Rattle.stored.specs.Form.{Taken, got, refused, and_then, take_many, take_block, take_blocks, port_count, net_of, blank, blank_end, denied, finish, put_field, put_value, put_many, put_valued, put_block}
-use Rattle.stored.specs.Reads.{block_answer, net_answer}
-use Rattle.stored.specs.declared.Place.TheVariants.{Next, Stopped}
-use Rattle.stored.specs.declared.BlockRead.{BlockRead}
-use Rattle.stored.specs.declared.Loading.{Loading}
-use Rattle.stored.proofs.Codecs.{block_back, block-front, port_count_le}
-use Rattle.stored.proofs.Places.{length_from, stop-not_next}
+use Rattle.blocks.specs.declared.Block.{Block}
+use Rattle.blocks.specs.declared.Net.{Net}
+use Rattle.stored.specs.Form.{Taken, got, refused, and_then, take_tested, between, take_many, take_block, take_blocks, take_counts, take_net, port_count, net_of, blank, blank_end, loaded, denied, finish, parse, put_field, put_value, put_many, put_valued, put_block}
+use Rattle.stored.specs.Reads.{Took}
+use Rattle.stored.proofs.Codecs.{then_there, then_refused, port_count_le}
+use Rattle.stored.proofs.Places.{length_from}
 
 -- bits are blank where the number that they make is 0
 blank-number : (l : List Bool) → eqb (number l) 0 ≡ blank l
@@ -36,19 +33,19 @@ no_length [] h = refl
 no_length (b ∷ l) h = absurd (omega arith)
 
 module _ (f : List ℕ) (at w : ℕ) where
-  pub field_number : (v : ℕ) → field_at f at w ≡ some v → v ≡ number (take w (drop at (bits_of f)))
+  pub field_number : (v : ℕ) → field_at f at w ≡ Some v → v ≡ number (take w (drop at (bits_of f)))
   unfolding field_at
   field_number v h = by (leb (at + w) (8 * length f)) h
     where
-      by : (t : Bool) → cond t (some (number (take w (drop at (bits_of f))))) none ≡ some v → v ≡ number (take w (drop at (bits_of f)))
+      by : (t : Bool) → cond t (Some (number (take w (drop at (bits_of f))))) None ≡ Some v → v ≡ number (take w (drop at (bits_of f)))
       by true h = cc
       by false h = let z : ◌≡◌ {A = ℕ} 0 1 = cc in absurd (omega arith)
 
-  pub ended_short : field_at f at w ≡ none → 8 * length f < at + w
+  pub ended_short : field_at f at w ≡ None → 8 * length f < at + w
   unfolding field_at
   ended_short h = by (leb (at + w) (8 * length f)) refl h
     where
-      by : (t : Bool) → leb (at + w) (8 * length f) ≡ t → cond t (some (number (take w (drop at (bits_of f))))) none ≡ none → 8 * length f < at + w
+      by : (t : Bool) → leb (at + w) (8 * length f) ≡ t → cond t (Some (number (take w (drop at (bits_of f))))) None ≡ None → 8 * length f < at + w
       by true e h = let z : ◌≡◌ {A = ℕ} 0 1 = cc in absurd (omega arith)
       by false e h = leb-false _ _ e
 
@@ -64,7 +61,7 @@ module _ (f : List ℕ) (at : ℕ) (h : at ≤ 8 * length f) where
       let n : length (drop at (bits_of f)) ≡ 0 = length_from f at 0 ∙ omega arith in
       rw (no_length (drop at (bits_of f)) n) refl
 
-  pub end_some : (w v : ℕ) → at + w ≡ 8 * length f → w < 8 → field_at f at w ≡ some v → eqb v 0 ≡ blank_end (drop at (bits_of f))
+  pub end_some : (w v : ℕ) → at + w ≡ 8 * length f → w < 8 → field_at f at w ≡ Some v → eqb v 0 ≡ blank_end (drop at (bits_of f))
   unfolding blank_end
   end_some w v s t e =
       let n : length (drop at (bits_of f)) ≡ w = length_from f at 0 ∙ omega arith in
@@ -97,65 +94,45 @@ length-block b r =
     let y = put_value (has_value b.kind) b.value x in
     omega (arith, length_field 4 b.kind (put_field 4 b.m y), length_field 4 b.m y, length-value (has_value b.kind) b.value x, length-ports-bits ps r)
 
--- a block that was taken at a position: where it ends, and the bits after it
-pub record Taken_at (f : List ℕ) (at c next : ℕ) (b : Block) : Type 0 where
-  pub taken : take_block c (drop at (bits_of f)) ≡ got b (drop next (bits_of f))
-  pub near : next ≤ at + 110
-  pub inside : next ≤ 8 * length f
-
-took : (f : List ℕ) (at c : ℕ) (b : Block) (r : List Bool) → c ≤ 128 → at ≤ 8 * length f → take_block c (drop at (bits_of f)) ≡ got b r
-    → Taken_at f at c (8 * length f - length r) b
-took f at c b r h s t =
-    let l = drop at (bits_of f) in
-    let k = length (put_block b []) in
-    let e : put_block b r ≡ l = (block_back c h l b r t).0 in
-    let g : put_block b [] ++ r ≡ l = block-front b [] r ∙ e in
-    let n : k + length r ≡ 8 * length f - at = sym (length-append (put_block b []) r) ∙ ap length g ∙ length_from f at 0 in
-    let p : at + k ≡ 8 * length f - length r = omega arith in
-    let d : r ≡ drop (8 * length f - length r) (bits_of f) =
-    sym (drop_at (put_block b []) r k refl) ∙ ap (drop k) g ∙ drop-drop k at (bits_of f) ∙ ap (λ (m : ℕ). drop m (bits_of f)) p in
-    record { taken = t ∙ ap (λ (x : List Bool). got b x) d; near = omega (arith, length-block b []); inside = omega arith }
-
--- what a caller learns of a block's answer
-module _ (f : List ℕ) (at c : ℕ) (h : c ≤ 128) (s : at ≤ 8 * length f) where
-  block_took : (t : Taken Block) → take_block c (drop at (bits_of f)) ≡ t → (n : ℕ) → (block_answer f t).place ≡ Next n → Taken_at f at c n (block_answer f t).block
-  unfolding block_answer
-  block_took (got b r) e n q = let p : 8 * length f - length r ≡ n = cc in rw p at (took f at c b r h s e)
-  block_took (refused d) e n q = absurd (stop-not_next (sym q))
-
-  pub block_next : (b : BlockRead) (n : ℕ) → b ≡ block_answer f (take_block c (drop at (bits_of f))) → b.place ≡ Next n → Taken_at f at c n b.block
-  block_next b n e q = rw e (block_took (take_block c (drop at (bits_of f))) refl n (rw e at q))
-
-  block-stop : (t : Taken Block) (e : ℕ) → (block_answer f t).place ≡ Stopped e → t ≡ refused e
-  unfolding block_answer
-  block-stop (got b r) e q = absurd (stop-not_next q)
-  block-stop (refused d) e q = ap (λ (n : ℕ). refused n) cc
-
-  pub block_refused : (b : BlockRead) (e : ℕ) → b ≡ block_answer f (take_block c (drop at (bits_of f))) → b.place ≡ Stopped e
-      → take_block c (drop at (bits_of f)) ≡ refused e
-  block_refused b n e q = block-stop (take_block c (drop at (bits_of f))) n (rw e at q)
-
--- the net's answers
+-- the net that blocks make
 module _ (n c : ℕ) (l : List Bool) where
-  pub blocks-refused : (e : ℕ) → take_many (take_block c) n l ≡ refused e → net_answer (denied e) ≡ net_answer (finish (take_blocks n c l))
+  pub blocks_refused : (e : ℕ) → take_many (take_block c) n l ≡ refused e → finish (take_blocks n c l) ≡ denied e
   unfolding take_blocks and_then finish
-  blocks-refused e h = rw h refl
+  blocks_refused e h = rw h refl
 
-  pub blocks-loaded : (bs : List Block) (r : List Bool) → take_many (take_block c) n l ≡ got bs r → blank_end r ≡ true
-      → ◌≡◌ {A = Loading} (record { refusal = 0; net = net_of n c bs }) (net_answer (finish (take_blocks n c l)))
-  unfolding take_blocks and_then finish net_answer
-  blocks-loaded bs r h b = rw (h, b) refl
+  pub blocks_loaded : (bs : List Block) (r : List Bool) → take_many (take_block c) n l ≡ got bs r → blank_end r ≡ true → finish (take_blocks n c l) ≡ loaded (net_of n c bs)
+  unfolding take_blocks and_then finish
+  blocks_loaded bs r h b = rw (h, b) refl
 
-  pub blocks_followed : (bs : List Block) (r : List Bool) → take_many (take_block c) n l ≡ got bs r → blank_end r ≡ false
-      → net_answer (denied 7) ≡ net_answer (finish (take_blocks n c l))
+  pub blocks_followed : (bs : List Block) (r : List Bool) → take_many (take_block c) n l ≡ got bs r → blank_end r ≡ false → finish (take_blocks n c l) ≡ denied 7
   unfolding take_blocks and_then finish
   blocks_followed bs r h b = rw (h, b) refl
 
--- two fields, and what follows them
-pub then_refused : {A C : Type 0} {t : Taken A} (k : A → List Bool → Taken C) {e : ℕ} → t ≡ refused e → and_then t k ≡ refused e
-unfolding and_then
-then_refused k h = ap (λ t. and_then t k) h
+-- a net, part after part
+module _ (f : List ℕ) where
+  refused_denied : (t : Taken Net) (e : ℕ) → t ≡ refused e → finish t ≡ denied e
+  unfolding finish
+  refused_denied t e h = rw h refl
 
-pub answer-refused : (t : Taken Net) (e : ℕ) → t ≡ refused e → net_answer (denied e) ≡ net_answer (finish t)
-unfolding finish
-answer-refused t e h = rw h refl
+  pub no_edition : (e : ℕ) → take_tested 4 (between 1 1) 2 (drop 0 (bits_of f)) ≡ refused e → parse f ≡ denied e
+  unfolding parse take_net
+  no_edition e h = refused_denied _ e (then_refused _ h)
+
+  module _ (edition : ℕ) (a : Took f (take_tested 4 (between 1 1) 2 (drop 0 (bits_of f))) edition 4) where
+    pub no_reserve : (e : ℕ) → take_tested 12 (between 0 0) 2 (drop 4 (bits_of f)) ≡ refused e → parse f ≡ denied e
+    unfolding parse take_net
+    no_reserve e h = refused_denied _ e (then_there _ a.taken (then_refused _ h))
+
+    module _ (reserve : ℕ) (b : Took f (take_tested 12 (between 0 0) 2 (drop 4 (bits_of f))) reserve 16) where
+      pub no_count : (e : ℕ) → take_tested 8 (between 2 64) 3 (drop 16 (bits_of f)) ≡ refused e → parse f ≡ denied e
+      unfolding parse take_net take_counts
+      no_count e h = refused_denied _ e (then_there _ a.taken (then_there _ b.taken (then_refused _ h)))
+
+      module _ (n : ℕ) (k : Took f (take_tested 8 (between 2 64) 3 (drop 16 (bits_of f))) n 24) where
+        pub no_channels : (e : ℕ) → take_tested 8 (between 1 128) 3 (drop 24 (bits_of f)) ≡ refused e → parse f ≡ denied e
+        unfolding parse take_net take_counts
+        no_channels e h = refused_denied _ e (then_there _ a.taken (then_there _ b.taken (then_there _ k.taken (then_refused _ h))))
+
+        pub parsed : (c : ℕ) → Took f (take_tested 8 (between 1 128) 3 (drop 24 (bits_of f))) c 32 → parse f ≡ finish (take_blocks n c (drop 32 (bits_of f)))
+        unfolding parse take_net take_counts
+        parsed c h = ap finish (then_there _ a.taken (then_there _ b.taken (then_there _ k.taken (then_there _ h.taken refl))))

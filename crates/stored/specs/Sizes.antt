@@ -2,8 +2,8 @@
 -- No contract needs to say it. A theorem over the definitions does, whose lists and numbers have no bound.
 -- Assumes nothing.
 use Rattle.std.specs.Prelude.{◌≡◌, List, [], ◌∷◌, ℕ, ◌^◌, ◌<◌, length}
-use Rattle.nets.specs.declared.Block.{Block}
-use Rattle.nets.specs.declared.Net.{Net}
+use Rattle.blocks.specs.declared.Block.{Block}
+use Rattle.blocks.specs.declared.Net.{Net}
 
 -- each element of a list has a property
 abbrev pub All : {A : Type 0} → (A → Type 0) → List A → Type 0

@@ -9,6 +9,7 @@ use borrow.Author.Tests.{ltb-true, ltb-false}
 use lib.Dec.{ltb}
 use lib.ListN.{length, get_or, length-append, get_or-append}
 use lib.Seq.{get_or-append-add}
+use Rattle.std.specs.Int.{w32, from_be_bytes}
 use Rattle.trace.specs.Numbers.{four_bytes, numbers_of, given}
 
 pub length_numbers : (l : List ℕ) → length (numbers_of l) ≡ length l / 4
@@ -22,6 +23,10 @@ length_numbers [] = refl
 -- the number that the 4 bytes from byte 4 * i on make
 abbrev pub number_at : List ℕ → ℕ → ℕ
 number_at l i = four_bytes (get_or l (4 * i) 0) (get_or l (4 * i + 1) 0) (get_or l (4 * i + 2) 0) (get_or l (4 * i + 3) 0)
+
+-- what std reads from four bytes, most significant first
+pub four_first : (a b c d : ℕ) → from_be_bytes w32 (a ∷ b ∷ c ∷ d ∷ []) ≡ four_bytes a b c d
+four_first a b c d = omega arith
 
 four_more : (i k : ℕ) → 4 * suc i + k ≡ suc (suc (suc (suc (4 * i + k))))
 four_more i k = omega arith

@@ -1,13 +1,14 @@
 -- Laws of the bytes of records: how many there are, that they stand one record after another, and what writing one record more into their part does.
 -- Assumes nothing.
-use Prim.Native.Nat.{ℕ, ◌+◌, ◌-◌, ◌*◌, ◌/◌, ◌%◌, ◌^◌, ◌<◌, ◌≤◌}
+use Prim.Native.Nat.{ℕ, ◌+◌, ◌-◌, ◌*◌, ◌<◌, ◌≤◌}
 use native.Mathlib.Omega.{arith}
 use mathlib.Core.Path.{◌≡◌, refl, sym, ◌∙◌, ap, ap₂}
 use mathlib.Core.List.{List, [], ◌∷◌, ◌++◌, append_assoc, append-nil}
 use native.Mathlib.Numerals.{add-one}
 use lib.ListN.{length, get_or, take, drop, length-append, length-drop, drop_of_length-le}
-use lib.Seq.{sets, sets-eq, take_all, length-take-le, take-suc, take_at, drop_at, drop-drop}
+use lib.Seq.{take_all, length-take-le, take-suc, take_at, drop_at, drop-drop}
 use borrow.Rule.Slice.PartMut.{mid_of, put_mid}
+use Rattle.std.specs.Int.{w64, to_be_bytes}
 use Rattle.trace.specs.Records.{bytes_of, trace_of}
 
 pub length_bytes : (r : ℕ) → length (bytes_of r) ≡ 8
@@ -28,16 +29,10 @@ unfolding trace_of
 trace-append [] b = refl
 trace-append (r ∷ a) b = ap (λ (l : List ℕ). bytes_of r ++ l) (trace-append a b) ∙ sym (append_assoc (bytes_of r) (trace_of a) (trace_of b))
 
--- a record's bytes after the first
-abbrev pub later_bytes : ℕ → List ℕ
-later_bytes r = r / 2 ^ 48 % 256 ∷ r / 2 ^ 40 % 256 ∷ r / 2 ^ 32 % 256 ∷ r / 2 ^ 24 % 256 ∷ r / 2 ^ 16 % 256 ∷ r / 2 ^ 8 % 256 ∷ r % 256 ∷ []
-
--- the bytes of a record stored one by one: in a 64-bit number the first needs no remainder
-pub bytes_stored : (r : ℕ) (l : List ℕ) → r < 2 ^ 64 → 8 ≤ length l → sets l 0 (r / 2 ^ 56 ∷ later_bytes r) ≡ bytes_of r ++ drop 8 l
+-- the bytes that std makes of a record, most significant first
+pub eight_first : (r : ℕ) → to_be_bytes w64 r ≡ bytes_of r
 unfolding bytes_of
-bytes_stored r l h s =
-    let e : r / 2 ^ 56 ≡ r / 2 ^ 56 % 256 = omega arith in
-    ap (λ (b : ℕ). sets l 0 (b ∷ later_bytes r)) e ∙ sets-eq (bytes_of r) l 0 s
+eight_first r = refl
 
 -- the tail of a list, as it is lent from element a on
 pub tail_lent : (a : ℕ) (l : List ℕ) → mid_of a (length l - a) l ≡ drop a l

@@ -2,6 +2,7 @@
 -- ascending order of channels, and a record is 8 bytes, most significant first.
 -- Assumes nothing.
 use Rattle.std.specs.Prelude.{ℕ, zero, suc, ◌+◌, ◌*◌, ◌/◌, ◌%◌, ◌^◌, ◌≤◌, ◌≡◌, Bool, false, cond, ◌&&◌, List, [], ◌∷◌, ◌++◌, length, get_or, take}
+use Rattle.blocks.specs.declared.Sig.{Sig}
 
 -- the record of a word that channel c delivers in the cycle after `count`
 abbrev pub record_of : ℕ → ℕ → ℕ → ℕ
@@ -12,9 +13,12 @@ unfoldable pub records_below : ℕ → (ℕ → Bool) → (ℕ → ℕ) → ℕ 
 records_below count moves word zero = []
 records_below count moves word (suc c) = records_below count moves word c ++ cond (moves c) (record_of count c (word c) ∷ []) []
 
--- the same where the signals are in arrays: a channel delivers when valid and ready both hold
-abbrev pub records_of : ℕ → List Bool → List Bool → List ℕ → ℕ → List ℕ
-records_of count valid ready word n = records_below count (λ c. get_or valid c false && get_or ready c false) (λ c. get_or word c 0) n
+-- the same where the signals are in arrays: a channel delivers when it is valid and ready
+abbrev pub sig_in : List Sig → ℕ → Sig
+sig_in signals c = get_or signals c (record { valid = false; word = 0 })
+
+abbrev pub records_of : ℕ → List Sig → List Bool → ℕ → List ℕ
+records_of count signals ready n = records_below count (λ c. (sig_in signals c).valid && get_or ready c false) (λ c. (sig_in signals c).word) n
 
 -- the 8 bytes of a record
 unfoldable pub bytes_of : ℕ → List ℕ

@@ -1,39 +1,60 @@
 // Numbers in bytes, 4 to a number, most significant first.
-ghost use Rattle.std.specs.Prelude.{◌≡◌, ◌+◌, ◌*◌, ◌≤◌, ◌<◌, length, get_or};
-ghost use Rattle.trace.specs.Numbers.{four_bytes, numbers_of, given};
+ghost use Rattle.std.specs.Prelude.{◌≡◌, ◌+◌, ◌*◌, ◌≤◌, ◌<◌, [], length, get_or};
+ghost use Rattle.trace.specs.Numbers.{numbers_of, given};
 
-// The number that 4 bytes make.
-fn four_bytes(a: u8, b: u8, c: u8, d: u8) -> u32
-    ensures { result ≡ four_bytes a b c d }
-{
-    ((a as u32 * 256 + b as u32) * 256 + c as u32) * 256 + d as u32
-}
+// A number's bytes.
+const NUMBER_BYTES: usize = 4;
 
 // Number i of the bytes.
 pub fn number_at(bytes: &[u8], i: usize) -> u32
     requires { 4 * i + 4 ≤ length bytes.now }
     ensures { result ≡ get_or (numbers_of bytes.now) i 0 }
 {
-    let at = 4 * i;
-    four_bytes(bytes[at], bytes[at + 1], bytes[at + 2], bytes[at + 3])
+    let at = NUMBER_BYTES * i;
+    u32::from_be_bytes([bytes[at], bytes[at + 1], bytes[at + 2], bytes[at + 3]])
 }
 
-// How many numbers are given as bytes and then as a list.
-pub fn numbers_in(bytes: &[u8], list: &[u32]) -> usize
-    ensures { result ≡ length (given bytes.now list.now) }
-{
-    bytes.len() / 4 + list.len()
+// Numbers given as bytes and then as a list: callers give one of the two and leave the other empty.
+#[derive(Clone, Copy)]
+pub struct Numbers<'a> {
+    pub bytes: &'a [u8],
+    pub list: &'a [u32],
 }
 
-// Number i of those given as bytes and then as a list.
-pub fn number_in(bytes: &[u8], list: &[u32], i: usize) -> u32
-    requires { i < length (given bytes.now list.now) }
-    ensures { result ≡ get_or (given bytes.now list.now) i 0 }
-{
-    let n = bytes.len() / 4;
-    if i < n {
-        number_at(bytes, i)
-    } else {
-        list[i - n]
+impl<'a> Numbers<'a> {
+    // Those that the bytes make.
+    pub fn of_bytes(bytes: &'a [u8]) -> Numbers<'a>
+        ensures bytes { result.bytes ≡ bytes.entry }
+        ensures list { result.list.now ≡ [] }
+    {
+        Numbers { bytes, list: &[] }
+    }
+
+    // Those of the list.
+    pub fn of_list(list: &'a [u32]) -> Numbers<'a>
+        ensures bytes { result.bytes.now ≡ [] }
+        ensures list { result.list ≡ list.entry }
+    {
+        Numbers { bytes: &[], list }
+    }
+
+    // How many there are.
+    pub fn len(self) -> usize
+        ensures { result ≡ length (given self.entry.bytes.now self.entry.list.now) }
+    {
+        self.bytes.len() / NUMBER_BYTES + self.list.len()
+    }
+
+    // Number i of them.
+    pub fn at(self, i: usize) -> u32
+        requires { i < length (given self.bytes.now self.list.now) }
+        ensures { result ≡ get_or (given self.entry.bytes.now self.entry.list.now) i 0 }
+    {
+        let n = self.bytes.len() / NUMBER_BYTES;
+        if i < n {
+            number_at(self.bytes, i)
+        } else {
+            self.list[i - n]
+        }
     }
 }

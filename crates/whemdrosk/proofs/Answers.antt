@@ -7,10 +7,10 @@ use native.Mathlib.Omega.{arith}
 use borrow.Author.Tests.{eq-eqb, ne_eqb}
 use lib.Dec.{eqb}
 use lib.ListN.{length}
-use Rattle.nets.specs.declared.Net.{Net}
+use Rattle.blocks.specs.declared.Net.{Net}
 use Rattle.forms.specs.Calls.{Loaded}
 use Rattle.stored.specs.declared.Loading.{Loading}
-use Rattle.cycles.specs.declared.State.{State}
+use Rattle.blocks.specs.declared.State.{State}
 use Rattle.sim.specs.Calls.{fresh_of}
 use Rattle.sim.specs.declared.Fresh.{Fresh}
 use Rattle.trace.specs.Numbers.{numbers_of, given}

@@ -8,12 +8,12 @@ use native.Mathlib.Omega.{arith}
 use borrow.Author.Tests.{eq-eqb, ne_eqb, eqb-true, ltb-false, le-ltb}
 use lib.Dec.{eqb, ltb}
 use lib.ListN.{length}
-use Rattle.nets.specs.declared.Net.{Net}
+use Rattle.blocks.specs.declared.Net.{Net}
 use Rattle.nets.proofs.Decided.{accepted, accepted_true}
 use Rattle.cycles.specs.Streams.{ends_fit}
 use Rattle.cycles.specs.State.{fresh_state, shape_ok}
 use Rattle.cycles.specs.Step.{refusal_by, fresh_by}
-use Rattle.cycles.specs.declared.State.{State}
+use Rattle.blocks.specs.declared.State.{State}
 use Rattle.cycles.proofs.States.{fresh_shape}
 use Rattle.sim.specs.Calls.{fresh_of}
 use Rattle.trace.specs.Numbers.{numbers_of}

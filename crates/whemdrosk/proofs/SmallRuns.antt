@@ -5,8 +5,8 @@ use Prim.Native.Nat.{ℕ, zero, suc, ◌+◌, ◌*◌, ◌≤◌}
 use native.Mathlib.Omega.{arith}
 use lib.Dec.{eqb, ltb}
 use lib.ListN.{length, get_or, length-append}
-use Rattle.nets.specs.declared.Net.{Net}
-use Rattle.cycles.specs.declared.State.{State}
+use Rattle.blocks.specs.declared.Net.{Net}
+use Rattle.blocks.specs.declared.State.{State}
 use Rattle.cycles.specs.declared.Stepped.{Stepped}
 use Rattle.trace.proofs.RecordLists.{records-few}
 use Rattle.runs.specs.Runs.{Ran, begun, records_in, onward, step_at, ran_for}

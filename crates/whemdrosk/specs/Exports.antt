@@ -1,12 +1,12 @@
 -- What the two exports answer and leave in the trace, read from bytes (document 01, "Runs and the trace": "The editor is written in C and calls two exports").
 -- Assumes nothing.
 use Rattle.std.specs.Prelude.{ℕ, ◌+◌, ◌*◌, ◌/◌, ◌%◌, ◌≡◌, Bool, cond, not, ◌||◌, List, eqb, length}
-use Rattle.nets.specs.declared.Net.{Net}
+use Rattle.blocks.specs.declared.Net.{Net}
 use Rattle.nets.proofs.Decided.{accepted}
 use Rattle.forms.specs.Calls.{Loaded}
 use Rattle.stored.specs.declared.Loading.{Loading}
 use Rattle.cycles.specs.Step.{refusal_by}
-use Rattle.cycles.specs.declared.State.{State}
+use Rattle.blocks.specs.declared.State.{State}
 use Rattle.sim.specs.Calls.{fresh_of}
 use Rattle.trace.specs.Numbers.{numbers_of}
 use Rattle.runs.specs.Runs.{Ran, begun, ran_for, written}

@@ -13,6 +13,7 @@ pub extern "C" fn whemdrosk_check(form: &[u8]) -> u32
 }
 
 // A run of a form from its fresh state; the answer is packed. Refused in this order: 1 to 11 (the form), 14 (words, then ends), 15 (masks), 16 (the number of cycles).
+// stays: the parameters of a public call stay as they were.
 #[unsafe(no_mangle)]
 pub extern "C" fn whemdrosk_run(
     form: &[u8],

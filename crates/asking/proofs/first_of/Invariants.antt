@@ -1,13 +1,8 @@
--- `asking::first_of` meets its contract.
+-- `asking::first_of` meets its contract: the loop's invariant is that the question can be handed to no port before i.
 -- Assumes nothing.
-use Prim.Native.Nat.{ℕ, ◌-◌, ◌≤◌, ◌<◌}
-use mathlib.Core.Path.{◌≡◌}
-use mathlib.Core.Bool.{false}
+use Rattle.std.proofs.Common.{◌≡◌, ℕ, ◌<◌, false}
 use Rattle.asking.specs.Rows.{takes_it}
 use Rattle.asking.proofs.first_of.Given as goal
 
 abbrev pub invariant-loop-i : goal.invariant-loop-i
-invariant-loop-i l = (l.i ≤ l.n) × ((q : ℕ) → q < l.i → takes_it l.side l.kind l.ch l.first l.rows l.base l.valid l.ready q ≡ false)
-
-abbrev pub decreases-loop-i : goal.decreases-loop-i
-decreases-loop-i l = l.n - l.i
+invariant-loop-i l = (q : ℕ) → q < l.i → takes_it l.side l.chosen l.first l.at.block.now l.signals l.ready q ≡ false

@@ -1,25 +1,23 @@
--- `asking::hand_on` meets its contract.
+-- `asking::hand_on` meets its contract: the port counts are the block's.
 -- Assumes nothing.
-use mathlib.Core.Path.{sym, ◌∙◌}
+use Rattle.std.proofs.Common.{sym, ◌∙◌}
 use Rattle.blocks.proofs.Counts.{count_small}
-use Rattle.asking.proofs.Asks.{hands_as, counts_are, never_unused}
+use Rattle.asking.proofs.Asks.{hands_same, counts_are, never_none}
 use Rattle.asking.proofs.hand_on.Goals as goal
 
 pub hand_to-requires : goal.hand_to-requires
 hand_to-requires c =
-    record {
-      ported = c.requires.ported;
-      outs_bound = count_small c.args.kind c.args.m c.in-Count.ins c.in-Count.outs (sym c.ports_of-p.ensures ∙ c.in-Count.is);
-    }
+    let block = c.args.at.block.now in
+    count_small block.kind block.m c.in-Some.ports (sym c.ports_of.ensures ∙ c.in-Some.is)
 
-pub returns-in-Count : goal.returns-in-Count
-returns-in-Count c marks =
-    let given = c.args in
-    let ok = c.requires.m_value in
-    let counts = counts_are given.kind given.m ok c.in-Count.ins c.in-Count.outs (sym c.ports_of-p.ensures ∙ c.in-Count.is) in
-    hands_as given.b given.kind given.m given.held marks given.rows.now given.base given.valid.now given.word.now given.ready.now ok c.hand_to.result
-    c.in-Count.ins c.in-Count.outs c.chosen_of-ch.result c.hand_to.ensures counts.0 counts.1 c.chosen_of-ch.ensures
+pub returns-in-Some : goal.returns-in-Some
+returns-in-Some c marks =
+    let a = c.args in
+    let block = a.at.block.now in
+    let counts = counts_are block.kind block.m c.requires.m_value c.in-Some.ports (sym c.ports_of.ensures ∙ c.in-Some.is) in
+    c.hand_to.ensures ∙ rw (counts, c.chosen_of-chosen.ensures) (hands_same a.b a.held marks block a.signals.now a.ready.now c.requires.m_value)
 
-pub returns-in-Unused : goal.returns-in-Unused
-returns-in-Unused c marks =
-    absurd (never_unused c.args.kind c.args.m c.requires.m_value (sym c.ports_of-p.ensures ∙ c.in-Unused.is))
+pub returns-in-None : goal.returns-in-None
+returns-in-None c marks =
+    let block = c.args.at.block.now in
+    absurd (never_none block.kind block.m c.requires.m_value (sym c.ports_of.ensures ∙ c.in-None.is))

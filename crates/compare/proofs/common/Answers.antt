@@ -1,28 +1,22 @@
--- `compare::common` meets its contract. The invariant: the first i words agree, so that what the lists share is i and what they share past i.
+-- `compare::common` meets its contract: the pairs that agree from the front on are counted.
 -- Assumes nothing.
-use native.Mathlib.Numerals.{add-one}
-use native.Mathlib.Omega.{arith}
+use mathlib.Core.Path.{◌∙◌}
 use borrow.Author.Rules.{rules}
-use Rattle.compare.proofs.Shared.{first_ends, second_ends, parted, agreed}
+use lib.Dec.{eqb}
+use Rattle.std.proofs.Common.{tests}
+use Rattle.std.proofs.lemmas.Iterator.{YieldsList-from_slice, YieldsList-from_zip}
+use Rattle.std.proofs.lemmas.Iterator.Consumers.{YieldsList-at, count_from_yields_List}
+use Rattle.std.proofs.lemmas.Iterator.Search.{YieldsList-from_take_while}
+use Rattle.compare.proofs.Shared.{shared_pairs}
 use Rattle.compare.proofs.common.Goals as goal
-
-pub returns-then-b-i : goal.returns-then-b-i
-returns-then-b-i c =
-    let given = c.args in
-    omega (arith, second_ends given.a.now given.b.now c.loop-i.i c.if-b-i.true)
-
-pub returns-then-a-i : goal.returns-then-a-i
-returns-then-a-i c =
-    let given = c.args in
-    omega (arith, parted given.a.now given.b.now c.loop-i.i (search rules) c.if-b-i.false c.if-a-i.true)
-
-pub loop-i-preserved : goal.loop-i-preserved
-loop-i-preserved c =
-    let given = c.args in
-    let one = agreed given.a.now given.b.now c.loop-i.i (search rules) c.if-b-i.false c.if-a-i.false in
-    (search rules, search rules, rw (add-one c.loop-i.i) (omega (arith, one)))
 
 pub returns : goal.returns
 returns c =
-    let given = c.args in
-    omega (arith, first_ends given.a.now given.b.now c.loop-i.i c.loop-i-test.false)
+    let a = c.args.a.now in
+    let b = c.args.b.now in
+    let pairs =
+    YieldsList-from_zip (YieldsList-at c.zip.ensures.first (YieldsList-from_slice a c.iter.ensures.rest)) (YieldsList-from_slice {s = c.zip.result.b} b c.zip.ensures.second.0) in
+    count_from_yields_List c.take_while.result _ c.count.ensures.ran
+    (YieldsList-from_take_while _ (λ p. eqb p.0 p.1) (YieldsList-at c.take_while.ensures.source pairs) c.take_while.ensures.closure
+    c.take_while.ensures.done (λ x t q k. search (rules, tests)))
+    ∙ shared_pairs a b

@@ -10,12 +10,13 @@ use borrow.Author.Count.{below_more, below_none}
 use borrow.Author.Tests.{eqb-true, eqb-false, ltb-true, ltb-false}
 use lib.ListN.{get_or, set, replicate, length-set, get_or-replicate}
 use lib.Seq.{get_or-set_same, get_or-set_other, ext_get_or}
+use Rattle.blocks.specs.Numbers.{kind_number}
 use Rattle.blocks.proofs.Options.{test}
 use Rattle.nets.specs.Block.{no_block}
 use Rattle.nets.specs.Net.{block_at}
 use Rattle.nets.specs.Verdict.{Joined}
-use Rattle.nets.specs.declared.Block.{Block}
-use Rattle.nets.specs.declared.Net.{Net}
+use Rattle.blocks.specs.declared.Block.{Block}
+use Rattle.blocks.specs.declared.Net.{Net}
 use Rattle.cycles.specs.State.{tab}
 use Rattle.cycles.proofs.States.{length-tab, get_d_tab}
 use Rattle.placed.specs.Placed.{buffer_from, input_moved, entry_of}
@@ -59,49 +60,19 @@ module _ (net : Net) (c kind : ℕ) (j : Joined net) (room : net.size < 64) (l :
       (λ k h. let q : k < 64 = omega (arith, length-set l net.size v, m.long) in at k q ∙ sym (get_d_tab 64 (entry_of net c kind) no_block k q))
 
 pub loop-i-init : goal.loop-i-init
-loop-i-init c = (omega arith, none_moved c.args.net c.args.c c.buffer-zero.result c.buffer-zero.ensures)
-
-pub offset_bounds-net-i : goal.offset_bounds-net-i
-offset_bounds-net-i c = omega arith
-
-pub bounds-net-i : goal.bounds-net-i
-bounds-net-i c = omega arith
-
-pub offset_bounds-blocks-i : goal.offset_bounds-blocks-i
-offset_bounds-blocks-i c = omega arith
-
-pub bounds-blocks-i : goal.bounds-blocks-i
-bounds-blocks-i c = omega arith
-
-pub overflow_add-i : goal.overflow_add-i
-overflow_add-i c = omega arith
-
-pub loop-i-smaller : goal.loop-i-smaller
-loop-i-smaller c = omega arith
+loop-i-init c = none_moved c.args.net c.args.c _ refl
 
 pub loop-i-preserved : goal.loop-i-preserved
 loop-i-preserved c =
     let a = c.args in
     let l = c.loop-i in
-    (omega arith, one_moved a.net a.c l.i l.blocks c.input_moved.result (omega arith) c.input_moved.ensures l.invariant.1)
-
-pub offset_bounds-blocks-n : goal.offset_bounds-blocks-n
-offset_bounds-blocks-n c = omega arith
-
-pub bounds-blocks-n : goal.bounds-blocks-n
-bounds-blocks-n c = omega arith
-
-pub overflow_add-result : goal.overflow_add-result
-overflow_add-result c = omega arith
-
-pub overflow_add-result-2 : goal.overflow_add-result-2
-overflow_add-result-2 c = omega arith
+    one_moved a.net a.c l.i l.blocks c.input_moved.result (omega arith) c.input_moved.ensures l.invariant
 
 pub returns : goal.returns
 returns c =
     let net = c.args.net in
     let l = c.loop-i in
     let all : l.i ≡ net.size = omega arith in
-    let all_moved = subst (λ (i : ℕ). Moving net c.args.c i l.blocks) all l.invariant.1 in
+    let all_moved = subst (λ (i : ℕ). Moving net c.args.c i l.blocks) all l.invariant in
     ap (λ (blocks : List Block). record { size = net.size + 1; channels = net.channels + 1; blocks = blocks })
-    (filled net c.args.c c.args.kind c.requires.joined c.requires.size_bound.0 l.blocks all_moved c.buffer.result c.buffer.ensures)
+    (filled net c.args.c (kind_number c.args.kind) c.requires.joined c.requires.size_bound.0 l.blocks all_moved c.buffer.result c.buffer.ensures)

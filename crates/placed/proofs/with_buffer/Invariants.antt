@@ -2,13 +2,13 @@
 -- then takes its place.
 -- Assumes nothing.
 use mathlib.Core.Path.{◌≡◌}
-use Prim.Native.Nat.{ℕ, ◌-◌, ◌≤◌, ◌<◌}
+use Prim.Native.Nat.{ℕ, ◌≤◌, ◌<◌}
 use mathlib.Core.List.{List}
 use lib.ListN.{get_or, length}
 use Rattle.nets.specs.Block.{no_block}
 use Rattle.nets.specs.Net.{block_at}
-use Rattle.nets.specs.declared.Block.{Block}
-use Rattle.nets.specs.declared.Net.{Net}
+use Rattle.blocks.specs.declared.Block.{Block}
+use Rattle.blocks.specs.declared.Net.{Net}
 use Rattle.placed.specs.Placed.{buffer_from, input_moved}
 use Rattle.placed.proofs.with_buffer.Given as goal
 
@@ -19,7 +19,4 @@ pub record Moving (net : Net) (c i : ℕ) (blocks : List Block) : Type 0 where
   pub rest : (k : ℕ) → i ≤ k → k < 64 → get_or blocks k no_block ≡ buffer_from 0 0 0
 
 abbrev pub invariant-loop-i : goal.invariant-loop-i
-invariant-loop-i l = (l.i ≤ l.n) × Moving l.net l.c l.i l.blocks
-
-abbrev pub decreases-loop-i : goal.decreases-loop-i
-decreases-loop-i l = l.n - l.i
+invariant-loop-i l = Moving l.net l.c l.i l.blocks

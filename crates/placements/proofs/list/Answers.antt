@@ -1,19 +1,11 @@
--- `placements::list` meets its contract: the base net is the value's.
+-- `placements::list` meets its contract: over the net value as a base net.
 -- Assumes nothing.
-use mathlib.Core.Path.{sym, ap, ◌∙◌}
-use Prim.Native.Nat.{ℕ}
-use Rattle.placements.specs.Calls.{value_number}
-use Rattle.placements.specs.Listing.{list_by}
-use Rattle.placements.proofs.Answering.{planned_number, value-joined}
+use mathlib.Core.Path.{◌∙◌}
+use Rattle.placements.proofs.Answering.{value-based, list-based}
 use Rattle.placements.proofs.list.Goals as goal
 
-pub list_by-requires : goal.list_by-requires
-list_by-requires c =
-    let net = c.args.net in
-    λ z. value-joined net (sym (c.value_number.ensures ∙ planned_number value_number net c.plan_of-plan.result c.plan_of-plan.ensures) ∙ z)
+pub list_on-requires : goal.list_on-requires
+list_on-requires c = value-based c.args.net c.value_base.result c.value_base.ensures
 
 pub returns : goal.returns
-returns c =
-    let net = c.args.net in
-    c.list_by.ensures
-    ∙ ap (λ (base : ℕ). list_by base net) (c.value_number.ensures ∙ planned_number value_number net c.plan_of-plan.result c.plan_of-plan.ensures)
+returns c = c.list_on.ensures ∙ list-based _ c.args.net c.value_base.result c.value_base.ensures

@@ -1,19 +1,11 @@
--- `placements::place` meets its contract: the base net is the value's.
+-- `placements::place` meets its contract: over the net value as a base net.
 -- Assumes nothing.
-use mathlib.Core.Path.{sym, ap, ◌∙◌}
-use Prim.Native.Nat.{ℕ}
-use Rattle.placements.specs.Calls.{value_number, place_by}
-use Rattle.placements.proofs.Answering.{planned_number, value-joined}
+use mathlib.Core.Path.{◌∙◌}
+use Rattle.placements.proofs.Answering.{value-based, place-based}
 use Rattle.placements.proofs.place.Goals as goal
 
-pub place_by-requires : goal.place_by-requires
-place_by-requires c =
-    let net = c.args.net in
-    λ z. value-joined net (sym (c.value_number.ensures ∙ planned_number value_number net c.plan_of-plan.result c.plan_of-plan.ensures) ∙ z)
+pub place_on-requires : goal.place_on-requires
+place_on-requires c = value-based c.args.net c.value_base.result c.value_base.ensures
 
 pub returns : goal.returns
-returns c =
-    let a = c.args in
-    c.place_by.ensures
-    ∙ ap (λ (base : ℕ). place_by base a.net a.codes.now)
-    (c.value_number.ensures ∙ planned_number value_number a.net c.plan_of-plan.result c.plan_of-plan.ensures)
+returns c = c.loading.ensures ∙ c.place_on.ensures ∙ place-based _ c.args.net c.args.codes.now c.value_base.result c.value_base.ensures

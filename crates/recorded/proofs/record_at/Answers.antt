@@ -6,7 +6,4 @@ use Rattle.recorded.proofs.Reading.{record_is}
 use Rattle.recorded.proofs.record_at.Goals as goal
 
 pub returns : goal.returns
-returns c =
-    let a = c.args in
-    c.joined.ensures ∙ ap₂ (λ (x y : ℕ). x * 2 ^ 32 + y) c.number_at.ensures c.number_at-2.ensures
-    ∙ sym (record_is a.bytes.now a.i c.requires)
+returns c = ap₂ (λ (x y : ℕ). x * 2 ^ 32 + y) c.number_at-head.ensures c.number_at-word.ensures ∙ sym (record_is c.args.bytes.now c.args.i c.requires)

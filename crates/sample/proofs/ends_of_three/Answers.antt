@@ -1,4 +1,4 @@
--- `sample::ends_of_three` meets its contract and ends. The loop's invariant: the first k ends are 3, 6, 9 and so on. The measure is what is left of 32.
+-- `sample::ends_of_three` meets its contract. The loop's invariant: the first k ends are 3, 6, 9 and so on.
 -- Assumes nothing.
 use Prim.Native.Nat.{◌+◌, ◌*◌}
 use mathlib.Core.Path.{refl}
@@ -11,8 +11,8 @@ use Rattle.sample.proofs.ends_of_three.Goals as goal
 
 pub loop-k-preserved : goal.loop-k-preserved
 loop-k-preserved c =
-    let l = c.loop-k in (omega arith, simp length-set l.invariant.1, fill_one (λ j. 3 * j + 3) l.ends l.k _ (omega arith) refl l.invariant.2)
+    let l = c.loop-k in (simp length-set l.invariant.0, fill_one (λ j. 3 * j + 3) l.end-items l.k _ (omega arith) refl l.invariant.1)
 
 pub returns : goal.returns
 unfolding ends_for
-returns c = let l = c.loop-k in tab_is 32 (λ j. 3 * j + 3) l.ends l.invariant.1 (λ j h. l.invariant.2 j (omega arith))
+returns c = let l = c.loop-k in tab_is 32 (λ j. 3 * j + 3) l.end-items l.invariant.0 (λ j h. l.invariant.1 j (omega arith))

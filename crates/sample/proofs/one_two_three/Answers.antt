@@ -1,4 +1,4 @@
--- `sample::one_two_three` meets its contract and ends. The loop's invariant: the first i words are 1, 2, 3 over and over. The measure is what is left of 96.
+-- `sample::one_two_three` meets its contract. The loop's invariant: the first i words are 1, 2, 3 over and over.
 -- Assumes nothing.
 use Prim.Native.Nat.{◌+◌, ◌%◌}
 use mathlib.Core.Path.{refl}
@@ -11,8 +11,8 @@ use Rattle.sample.proofs.one_two_three.Goals as goal
 
 pub loop-i-preserved : goal.loop-i-preserved
 loop-i-preserved c =
-    let l = c.loop-i in (omega arith, simp length-set l.invariant.1, fill_one (λ k. k % 3 + 1) l.words l.i _ (omega arith) refl l.invariant.2)
+    let l = c.loop-i in (simp length-set l.invariant.0, fill_one (λ k. k % 3 + 1) l.word-items l.i _ (omega arith) refl l.invariant.1)
 
 pub returns : goal.returns
 unfolding sample_words
-returns c = let l = c.loop-i in tab_is 96 (λ i. i % 3 + 1) l.words l.invariant.1 (λ i h. l.invariant.2 i (omega arith))
+returns c = let l = c.loop-i in tab_is 96 (λ i. i % 3 + 1) l.word-items l.invariant.0 (λ i h. l.invariant.1 i (omega arith))

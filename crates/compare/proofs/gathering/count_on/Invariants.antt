@@ -1,6 +1,6 @@
 -- `compare::gathering::count_on` meets its contract. The loop's invariant: k is the number of the channel's words among the first i records.
 -- Assumes nothing.
-use Prim.Native.Nat.{◌-◌, ◌≤◌}
+use Prim.Native.Nat.{◌≤◌}
 use mathlib.Core.Path.{◌≡◌}
 use lib.ListN.{length}
 use Rattle.recorded.specs.Recorded.{records_read}
@@ -8,7 +8,4 @@ use Rattle.compare.proofs.Words.{first}
 use Rattle.compare.proofs.gathering.count_on.Given as goal
 
 abbrev pub invariant-loop-i : goal.invariant-loop-i
-invariant-loop-i l = (l.i ≤ l.n) × (l.k ≤ l.i) × (l.k ≡ length (first l.channel (records_read l.trace) l.i))
-
-abbrev pub decreases-loop-i : goal.decreases-loop-i
-decreases-loop-i l = l.n - l.i
+invariant-loop-i l = record { few : l.k ≤ l.i; number : l.k ≡ length (first l.channel (records_read l.trace) l.i) }

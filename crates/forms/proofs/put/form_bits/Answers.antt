@@ -1,52 +1,33 @@
--- `forms::put::form_bits` meets its contract. The loop's invariant: the bits are the header's and those of the blocks passed, at most 110 a block. The
--- measure is what is left of the blocks.
+-- `forms::put::form_bits` meets its contract. The loop's invariant: the bits are the header's and those of the blocks passed, at most 110 a block.
 -- Assumes nothing.
 use Prim.Native.Nat.{ℕ, ◌+◌, ◌≤◌}
 use native.Mathlib.Omega.{arith}
 use mathlib.Core.Path.{◌≡◌, refl, sym, ◌∙◌, ap}
 use lib.ListN.{length}
 use borrow.Author.Rules.{rules}
-use Rattle.nets.specs.Net.{block_at}
 use Rattle.stored.specs.Form.{put_many}
-use Rattle.forms.proofs.Writes.{up_to, bits_most, encode-bits, turn-bits}
-use Rattle.forms.proofs.put.form_bits.Lts as lts
-use Rattle.forms.proofs.put.form_bits.Tie as tie
-use Rattle.forms.proofs.put.form_bits.Reads as reads
+use Rattle.forms.proofs.Writes.{up_to, bits_most, encode-bits, met, many-met, turn-bits}
 use Rattle.forms.proofs.put.form_bits.Goals as goal
 
--- places on the way that several answers speak of
-abbrev Start : Type 0
-Start = lts.Start tie.the-claims reads.Pre reads.Post goal.the-invariant-loop-i goal.the-decreases-loop-i
-
--- a net has 64 blocks: its type says so
-long : (c : Start) → c.args.net.size ≤ length c.args.net.blocks
-long c =
-    let all : length c.args.net.blocks ≡ 64 = c.well_formed.0.1.1.1.1.0.1.0.1 in
-    omega (arith, c.requires)
-
-pub loop-i-init : goal.loop-i-init
+pub loop-b-init : goal.loop-b-init
 unfolding put_many
-loop-i-init c = (search rules, refl, search rules)
-
-pub bounds-blocks-i : goal.bounds-blocks-i
-bounds-blocks-i c = omega (arith, c.requires)
+loop-b-init c = (refl, search rules)
 
 pub overflow_add-bits : goal.overflow_add-bits
-overflow_add-bits c = omega (arith, c.block_bits-bits.ensures, bits_most (block_at c.args.net c.loop-i.i), c.requires)
+overflow_add-bits c = omega (arith, c.block_bits-bits.ensures, bits_most (met c.args.net c.loop-b.b-index), many-met c.args.net (omega (arith, c.requires)), c.requires)
 
-pub loop-i-preserved : goal.loop-i-preserved
-loop-i-preserved c =
-    let outset = c.before.before.before.before.before.before in
+pub loop-b-preserved : goal.loop-b-preserved
+loop-b-preserved c =
     let n = c.args.net in
-    let l = c.loop-i in (
-      search rules,
-      omega (arith, c.block_bits-bits.ensures, turn-bits n (long outset) l.i (search rules)),
-      omega (arith, c.block_bits-bits.ensures, bits_most (block_at n l.i)),
+    let long : n.size ≤ length n.blocks = omega (arith, c.requires) in
+    let l = c.loop-b in (
+      omega (arith, c.block_bits-bits.ensures, turn-bits n long l.b-index (omega (arith, many-met n long))),
+      omega (arith, c.block_bits-bits.ensures, bits_most (met n l.b-index)),
     )
 
 pub returns : goal.returns
 returns c =
     let n = c.args.net in
-    let l = c.loop-i in
-    let e : l.i ≡ n.size = omega arith in
-    l.invariant.1 ∙ ap (λ (k : ℕ). 32 + length (up_to n.blocks k)) e ∙ sym (encode-bits n)
+    let l = c.loop-b in
+    let e : l.b-index ≡ n.size = omega (arith, many-met n (omega (arith, c.requires))) in
+    l.invariant.0 ∙ ap (λ (k : ℕ). 32 + length (up_to n.blocks k)) e ∙ sym (encode-bits n)

@@ -1,7 +1,6 @@
 -- `forms::put::put_field` meets its contract. The loop's invariant: the first k bits of the field are written over the buffer's bits, and the buffer's length
--- is kept. The measure is what is left of the width.
+-- is kept.
 -- Assumes nothing.
-use Prim.Native.Nat.{◌-◌, ◌≤◌}
 use mathlib.Core.Path.{◌≡◌}
 use lib.ListN.{length}
 use lib.Seq.{paste}
@@ -10,7 +9,4 @@ use Rattle.forms.proofs.put.put_field.Given as goal
 
 abbrev pub invariant-loop-k : goal.invariant-loop-k
 invariant-loop-k l =
-    (l.k ≤ l.width) × (length l.buf ≡ length l.initial.buf) × (bits_of l.buf ≡ paste (bits_of l.initial.buf) l.at (bits l.width l.value) l.k)
-
-abbrev pub decreases-loop-k : goal.decreases-loop-k
-decreases-loop-k l = l.width - l.k
+    (length l.buf ≡ length l.initial.buf) × (bits_of l.buf ≡ paste (bits_of l.initial.buf) l.at (bits l.width l.value) l.k)

@@ -9,7 +9,7 @@ use lib.ListN.{length}
 use Rattle.reader.specs.Bits.{bits, bits_of}
 use Rattle.stored.specs.Form.{encode, form_of}
 use Rattle.forms.specs.Over.{over}
-use Rattle.forms.specs.declared.Written.TheVariants.{Bytes}
+use Rattle.std.proofs.Common.{Ok}
 use Rattle.forms.proofs.Writes.{up_to, encode-bits}
 use Rattle.forms.proofs.Packs.{form_most, too_short, fits, written, length-pack, all_by_index, header}
 use Rattle.forms.proofs.put.put_net.Goals as goal
@@ -53,6 +53,6 @@ returns c =
     (w.ensures ∙ ap (λ (l : List Bool). over l r (bits z 0)) two ∙ ap (λ (k : ℕ). over (over (over (bits_of f) 0 (header n)) 32 x) k (bits z 0)) e) in
     let d = fits n f w.new.buf room g in
     record {
-      answer = ap (λ (k : ℕ). Bytes ((k + 7) / 8)) e ∙ d.0;
+      answer = ap (λ (k : ℕ). Ok ((k + 7) / 8)) e ∙ d.0;
       buffer = d.1;
     }

@@ -1,7 +1,6 @@
 -- `forms::put::put_ports` meets its contract. The loop's invariant: the bits of the first i ports are written over the buffer's bits, and the buffer's length
--- is kept. The measure is what is left of the count.
+-- is kept.
 -- Assumes nothing.
-use Prim.Native.Nat.{◌-◌, ◌≤◌}
 use mathlib.Core.Path.{◌≡◌}
 use mathlib.Core.List.{[]}
 use lib.ListN.{length, take}
@@ -12,7 +11,4 @@ use Rattle.forms.proofs.put.put_ports.Given as goal
 
 abbrev pub invariant-loop-i : goal.invariant-loop-i
 invariant-loop-i l =
-    (l.i ≤ l.count) × (length l.buf ≡ length l.initial.buf) × (bits_of l.buf ≡ over (bits_of l.initial.buf) l.start (put_many (put_field 7) (take l.i l.ports) []))
-
-abbrev pub decreases-loop-i : goal.decreases-loop-i
-decreases-loop-i l = l.count - l.i
+    (length l.buf ≡ length l.initial.buf) × (bits_of l.buf ≡ over (bits_of l.initial.buf) l.start (put_many (put_field 7) (take l.i l.ports) []))

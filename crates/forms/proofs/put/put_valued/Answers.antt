@@ -1,68 +1,61 @@
 -- `forms::put::put_valued` meets its contract: the value's bits exactly where the kind has one, and the ports' bits behind them.
 -- Assumes nothing.
-use Prim.Native.Nat.{ℕ, ◌+◌, ◌≤◌}
-use native.Mathlib.Omega.{arith}
-use mathlib.Core.Path.{◌≡◌, sym, ◌∙◌, ap}
-use mathlib.Core.List.{List, []}
-use mathlib.Core.Bool.{Bool}
-use lib.ListN.{length, take}
-use borrow.Author.Rules.{rules}
+use Rattle.std.proofs.Common.{◌≡◌, ℕ, ◌+◌, ◌≤◌, Bool, List, [], length, take, arith, rules, sym, ap, ◌∙◌}
+use lib.Seq.{length-take-le}
 use Rattle.reader.specs.Bits.{bits_of}
 use Rattle.reader.proofs.Bits.{length_bits_of}
+use Rattle.blocks.specs.declared.Block.{Block}
 use Rattle.stored.specs.Form.{port_count, put_field, put_many}
 use Rattle.forms.specs.Over.{over}
 use Rattle.stored.proofs.Codecs.{port_count_le}
 use Rattle.forms.proofs.Writes.{bits_valued, bits_plain, over_plain, over_valued}
-use Rattle.forms.proofs.put.put_valued.Lts as lts
-use Rattle.forms.proofs.put.put_valued.Tie as tie
-use Rattle.forms.proofs.put.put_valued.Reads as reads
 use Rattle.forms.proofs.put.put_valued.Goals as goal
 
--- places on the way that several answers speak of
-abbrev Start : Type 0
-Start = lts.Start tie.the-claims reads.Pre reads.Post
+-- a block has as many ports in its array as its kind and m say
+all_ports : (b : Block) (n : ℕ) → length b.ports ≡ 10 → n ≡ port_count b.kind b.m → length (take n b.ports) ≡ port_count b.kind b.m
+all_ports b n ten e = length-take-le n b.ports (omega (arith, e, port_count_le b.kind b.m)) ∙ e
 
-long : (c : Start) → length c.args.b.ports ≡ 10
-long c = search rules
+pub shared_ref_as_front-ports : goal.shared_ref_as_front-ports
+shared_ref_as_front-ports c = omega (arith, c.port_count.ensures, port_count_le c.args.b.kind c.args.b.m)
 
 pub put_field-requires : goal.put_field-requires
 put_field-requires c =
-    let outset = c.before.before.before.before.before.before in
-    let n = bits_valued c.args.b (long outset) (sym c.has_value.ensures ∙ c.if-has_value.true) in
+    let ten : length c.args.b.ports ≡ 10 = search rules in
+    let n = bits_valued c.args.b ten (sym c.has_value.ensures ∙ c.if-has_value.true) in
     (omega (arith, n), search rules, search rules)
 
 pub put_ports-requires : goal.put_ports-requires
 put_ports-requires c =
-    let outset = c.before.before.before.before.before.before.before.before.before.before in
     let b = c.args.b in
-    let n = bits_valued b (long outset) (sym c.has_value.ensures ∙ c.if-has_value.true) in
-    let p = c.port_count-count.ensures in
+    let ten : length b.ports ≡ 10 = search rules in
+    let n = bits_valued b ten (sym c.has_value.ensures ∙ c.if-has_value.true) in
+    let p = all_ports b c.port_count.result ten c.port_count.ensures in
     (omega (arith, n, p, c.put_field.auto.buf), search rules, omega (arith, p, port_count_le b.kind b.m))
 
 pub returns-then-has_value : goal.returns-then-has_value
 returns-then-has_value c =
-    let outset = c.before.before.before.before.before.before.before.before.before.before.before.before.before.before in
     let a = c.args in
     let b = c.args.b in
+    let ten : length b.ports ≡ 10 = search rules in
     let t = sym c.has_value.ensures ∙ c.if-has_value.true in
-    let room : a.at + 32 ≤ length (bits_of a.buf.now) = rw length_bits_of (omega (arith, bits_valued b (long outset) t, c.requires)) in
+    let room : a.at + 32 ≤ length (bits_of a.buf.now) = rw length_bits_of (omega (arith, bits_valued b ten t, c.requires)) in
     c.put_ports.ensures
-    ∙ ap (λ (k : ℕ). over (bits_of c.put_field.new.buf) (a.at + 32) (put_many (put_field 7) (take k b.ports) [])) c.port_count-count.ensures
+    ∙ ap (λ (k : ℕ). over (bits_of c.put_field.new.buf) (a.at + 32) (put_many (put_field 7) (take k b.ports) [])) c.port_count.ensures
     ∙ ap (λ (x : List Bool). over x (a.at + 32) (put_many (put_field 7) (take (port_count b.kind b.m) b.ports) [])) c.put_field.ensures
     ∙ over_valued (bits_of a.buf.now) a.at b room t
 
-pub put_ports-requires-2 : goal.put_ports-requires-2
-put_ports-requires-2 c =
-    let outset = c.before.before.before.before.before.before in
+pub put_ports-requires-else-has_value : goal.put_ports-requires-else-has_value
+put_ports-requires-else-has_value c =
     let b = c.args.b in
-    let n = bits_plain b (long outset) (sym c.has_value.ensures ∙ c.if-has_value.false) in
-    let p = c.port_count-count.ensures in
+    let ten : length b.ports ≡ 10 = search rules in
+    let n = bits_plain b ten (sym c.has_value.ensures ∙ c.if-has_value.false) in
+    let p = all_ports b c.port_count.result ten c.port_count.ensures in
     (omega (arith, n, p), search rules, omega (arith, p, port_count_le b.kind b.m))
 
-pub returns : goal.returns
-returns c =
+pub returns-else-has_value : goal.returns-else-has_value
+returns-else-has_value c =
     let a = c.args in
     let b = c.args.b in
-    c.put_ports-2.ensures
-    ∙ ap (λ (k : ℕ). over (bits_of a.buf.now) a.at (put_many (put_field 7) (take k b.ports) [])) c.port_count-count.ensures
+    c.put_ports-else-has_value.ensures
+    ∙ ap (λ (k : ℕ). over (bits_of a.buf.now) a.at (put_many (put_field 7) (take k b.ports) [])) c.port_count.ensures
     ∙ over_plain (bits_of a.buf.now) a.at b (sym c.has_value.ensures ∙ c.if-has_value.false)

@@ -1,21 +1,17 @@
--- `nets::fields::block_zero` meets its contract: the tests of the fields, one after the other.
+-- `nets::fields::block_zero` meets its contract: ten ports are the zeros where each of them is 0.
 -- Assumes nothing.
+use mathlib.Core.Path.{◌≡◌, ◌∙◌, ap}
+use mathlib.Core.Bool.{Bool, ◌&&◌}
+use native.Mathlib.Omega.{arith}
+use lib.Dec.{eqb}
+use lib.ListN.{length}
 use Rattle.nets.specs.Net.{block_zero}
-use borrow.Author.Tests.{eq-eqb, ne_eqb}
+use Rattle.nets.proofs.Chains.{zero-ports}
 use Rattle.nets.proofs.fields.block_zero.Goals as goal
-
-pub returns-then-b-ne0 : goal.returns-then-b-ne0
-unfolding block_zero
-returns-then-b-ne0 c = rw (ne_eqb _ _ c.if-b-ne0.true)
-
-pub returns-then-b-ne0-2 : goal.returns-then-b-ne0-2
-unfolding block_zero
-returns-then-b-ne0-2 c = rw (eq-eqb _ _ c.if-b-ne0.false, ne_eqb _ _ c.if-b-ne0-2.true)
-
-pub returns-then-b-ne0-3 : goal.returns-then-b-ne0-3
-unfolding block_zero
-returns-then-b-ne0-3 c = rw (eq-eqb _ _ c.if-b-ne0.false, eq-eqb _ _ c.if-b-ne0-2.false, ne_eqb _ _ c.if-b-ne0-3.true)
 
 pub returns : goal.returns
 unfolding block_zero
-returns c = rw (eq-eqb _ _ c.if-b-ne0.false, eq-eqb _ _ c.if-b-ne0-2.false, eq-eqb _ _ c.if-b-ne0-3.false) c.ports_ok.ensures
+returns c =
+    let b = c.args.b in
+    let l : length b.ports ≡ 10 = omega arith in
+    c.eq.ensures ∙ ap (λ (t : Bool). eqb b.kind 0 && (eqb b.m 0 && (eqb b.value 0 && t))) (zero-ports b.ports l)

@@ -1,14 +1,10 @@
--- `nets::placing::may_place` meets its contract. The loop's invariant: the inputs before `j` are fed; the measure is what is left of the inputs.
+-- `nets::placing::may_place` meets its contract. The loop's invariant: the inputs before `j` are fed.
 -- Assumes nothing.
 use mathlib.Core.Path.{◌≡◌}
 use mathlib.Core.Bool.{true}
-use Prim.Native.Nat.{◌-◌}
 use Rattle.blocks.specs.Folds.{all_below}
 use Rattle.nets.specs.Order.{fed_at}
 use Rattle.nets.proofs.placing.may_place.Given as goal
 
 abbrev pub invariant-loop-j : goal.invariant-loop-j
-invariant-loop-j l = all_below (fed_at l.control l.rows l.producer l.places l.b) l.j ≡ true
-
-abbrev pub decreases-loop-j : goal.decreases-loop-j
-decreases-loop-j l = l.n - l.j
+invariant-loop-j l = all_below (fed_at l.control l.net l.producer l.places l.b) l.j ≡ true

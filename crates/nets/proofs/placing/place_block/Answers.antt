@@ -1,70 +1,43 @@
 -- `nets::placing::place_block` meets its contract: the block has a place already, or an input is not fed, or it is placed.
 -- Assumes nothing.
-use mathlib.Core.Path.{◌≡◌}
-use mathlib.Core.Bool.{true}
-use Prim.Native.Nat.{◌<◌}
 use native.Mathlib.Omega.{arith}
-use borrow.Author.Tests.{not-true, not-false}
-use Rattle.nets.specs.Order.{next_at}
-use Rattle.nets.proofs.Orders.{feeds_more, next-yes, stepped-place, stepped-placed, stepped-waits, room}
-use Rattle.nets.proofs.placing.place_block.Lts as lts
-use Rattle.nets.proofs.placing.place_block.Tie as tie
-use Rattle.nets.proofs.placing.place_block.Reads as reads
+use Rattle.nets.proofs.Nets.{size-high}
+use Rattle.nets.proofs.Orders.{reads_of, next-yes, stepped-place, stepped-placed, stepped-waits, room-for}
 use Rattle.nets.proofs.placing.place_block.Goals as goal
+use Rattle.nets.proofs.placing.place_block.Goals.{else-order-b-eq0-via-then-order-b-eq0+else-may_place, else-order-b-eq0-via-else-order-b-eq0}
 
--- places on the way that several answers speak of
-abbrev Else-not-may_place : Type 0
-Else-not-may_place = lts.Else2 tie.the-claims reads.Pre reads.Post tie.handed_clauses
+pub bounds-order-b : goal.bounds-order-b
+bounds-order-b c = omega (arith, size-high c.args.net.now c.requires.feeds.fields)
 
-pub returns-then-places-b-ne0 : goal.returns-then-places-b-ne0
-returns-then-places-b-ne0 c =
-    stepped-placed _ _ _ _ _ _ _ _ _ c.requires.progress c.if-places-b-ne0.true
+pub overflow_cast-order : goal.overflow_cast-order
+overflow_cast-order c = omega (arith, size-high c.args.net.now c.requires.feeds.fields)
 
-pub may_place-requires : goal.may_place-requires
-may_place-requires c =
-    record {
-      b_bound = omega arith;
-      feeds = feeds_more _ _ _ _ _ c.requires.size_bound c.requires.feeds;
-    }
+pub bounds-order-order : goal.bounds-order-order
+bounds-order-order c =
+    room-for _ _ _ c.args.order.now c.requires.feeds.fields _ c.requires.placed c.args.b c.requires.b_bound c.if-order-b-eq0.true c.may_place.ensures c.if-may_place.true
 
-pub returns-then-not-may_place : goal.returns-then-not-may_place
-returns-then-not-may_place c =
-    stepped-waits _ _ _ _ _ _ _ _ _ c.requires.progress _ c.requires.feeds c.if-places-b-ne0.false c.may_place.ensures (search (not-true))
+pub overflow_cast-order-then-may_place : goal.overflow_cast-order-then-may_place
+overflow_cast-order-then-may_place c =
+    omega (
+      arith,
+      room-for _ _ _ c.args.order.now c.requires.feeds.fields _ c.requires.placed c.args.b c.requires.b_bound c.if-order-b-eq0.true c.may_place.ensures c.if-may_place.true,
+    )
 
--- the block can be placed
-next : (c : Else-not-may_place)
-    → next_at c.args.control c.args.rows.now
-    c.args.producer.now c.args.places.now
-    c.args.b ≡ true
-next c =
-    let a = c.args in
-    next-yes a.control a.rows.now a.producer.now a.limit a.b a.places.now _ c.if-places-b-ne0.false
-    c.may_place.ensures (search (not-false))
+pub bounds-order-b-then-may_place : goal.bounds-order-b-then-may_place
+bounds-order-b-then-may_place c = omega (arith, size-high c.args.net.now c.requires.feeds.fields)
 
--- and there is room for it
-has_room : (c : Else-not-may_place) → c.args.count < c.args.size
-has_room c =
-    let a = c.args in
-    room a.control a.rows.now a.producer.now a.size a.count a.blocks.now a.places.now c.requires.progress c.requires.size_bound a.b c.requires.b_lt_size (next c)
+pub returns-then-may_place : goal.returns-then-may_place
+returns-then-may_place c =
+    let net = c.args.net.now in
+    let reads = reads_of net c.args.control c.args.producer.now c.requires.feeds.fields c.requires.feeds.producers c.args.b c.requires.b_bound in
+    stepped-place _ _ _ _ _ _ c.requires.placed (size-high net c.requires.feeds.fields) c.requires.b_bound reads
+    (next-yes c.args.control net c.args.producer.now c.args.limit c.args.b c.args.order.now.places _ c.if-order-b-eq0.true c.may_place.ensures c.if-may_place.true)
 
-pub overflow_cast-blocks : goal.overflow_cast-blocks
-overflow_cast-blocks c = omega arith
-
-pub bounds-blocks-count : goal.bounds-blocks-count
-bounds-blocks-count c = omega (arith, has_room c.before)
-
-pub overflow_cast-places : goal.overflow_cast-places
-overflow_cast-places c = omega (arith, has_room c.before)
-
-pub overflow_add-places : goal.overflow_add-places
-overflow_add-places c = omega (arith, has_room c.before)
-
-pub bounds-places-b-2 : goal.bounds-places-b-2
-bounds-places-b-2 c = omega arith
-
-pub overflow_add-result : goal.overflow_add-result
-overflow_add-result c = omega (arith, has_room c.before.before)
-
-pub returns : goal.returns
-returns c =
-    stepped-place _ _ _ _ _ _ _ _ _ c.requires.progress c.requires.size_bound c.requires.b_lt_size c.requires.feeds (next c.before.before)
+pub returns-else-order-b-eq0 : goal.returns-else-order-b-eq0
+returns-else-order-b-eq0 c =
+    let net = c.args.net.now in
+    let reads = reads_of net c.args.control c.args.producer.now c.requires.feeds.fields c.requires.feeds.producers c.args.b c.requires.b_bound in
+    elim c.else-order-b-eq0.branch [
+      | else-order-b-eq0-via-then-order-b-eq0+else-may_place w ↦ stepped-waits _ _ _ _ _ _ c.requires.placed _ reads w.if-order-b-eq0.true w.may_place.ensures w.if-may_place.false
+      | else-order-b-eq0-via-else-order-b-eq0 w ↦ stepped-placed _ _ _ _ _ _ c.requires.placed w.if-order-b-eq0.false
+    ]

@@ -1,42 +1,34 @@
--- `nets::wiring::ends_of` meets its contract. The loop's invariant: the blocks before `i` are entered; the measure is what is left of the blocks.
+-- `nets::wiring::ends_of` meets its contract. The loop's invariant: the blocks before `i` are entered.
 -- Assumes nothing.
-use mathlib.Core.Path.{◌≡◌, refl, subst}
+use mathlib.Core.Path.{◌≡◌, sym, ◌∙◌, subst}
 use Prim.Native.Nat.{ℕ, ◌*◌}
 use native.Mathlib.Omega.{arith}
-use borrow.Author.Tests.{not-true, not-false}
 use Rattle.nets.specs.Ends.{Entries}
-use Rattle.nets.proofs.EndTables.{entries_start, filled_next, ends_clash, ends-whole}
+use Rattle.nets.proofs.Nets.{channels-high}
+use Rattle.nets.proofs.EndTables.{entries_start}
+use Rattle.nets.proofs.Wirings.{filled_next, ends-clash, ends-whole, ends-vacant}
 use Rattle.nets.proofs.wiring.ends_of.Goals as goal
 
 pub loop-i-init : goal.loop-i-init
-loop-i-init c = (omega arith, refl, entries_start _ _)
-
-pub fill_block-requires : goal.fill_block-requires
-fill_block-requires c =
-    record {
-      i_bound = omega arith;
-      sound = c.requires.by_index c.loop-i.i c.loop-i-test.true;
-      table_len = c.loop-i.invariant.1;
-      entries = c.loop-i.invariant.2;
-    }
+loop-i-init c = entries_start _ _
 
 pub returns-then-not-fill_block : goal.returns-then-not-fill_block
-returns-then-not-fill_block c =
-    ends_clash _ _ c.loop-i.i _ _ _ _ c.loop-i-test.true (search (not-true)) c.fill_block.ensures.filled
-
-pub overflow_add-i : goal.overflow_add-i
-overflow_add-i c = omega arith
-
-pub loop-i-smaller : goal.loop-i-smaller
-loop-i-smaller c = omega arith
+returns-then-not-fill_block c = ends-clash c.args.net.now c.requires.fields c.args.side c.loop-i.i _ _ (omega arith) c.if-not-fill_block.true c.fill_block.ensures
 
 pub loop-i-preserved : goal.loop-i-preserved
-loop-i-preserved c =
-    (omega arith, c.fill_block.ensures.table_len_2, filled_next _ _ _ _ _ (search (not-false)) c.fill_block.ensures.filled)
+loop-i-preserved c = filled_next c.args.net.now c.requires.fields c.args.side c.loop-i.i _ _ c.if-not-fill_block.false c.fill_block.ensures
 
-pub returns : goal.returns
-returns c =
-    let a = c.args in
-    let e : c.loop-i.i ≡ a.size = omega arith in
-    ends-whole a.rows.now a.side a.size a.channels _ c.loop-i.table c.requires.size_bound c.requires.channels_bound
-    (subst (λ (n : ℕ). Entries a.rows.now a.side c.loop-i.table (n * 10)) e c.loop-i.invariant.2) c.all_held.ensures
+pub all_held-requires : goal.all_held-requires
+all_held-requires c = channels-high c.args.net.now c.requires.fields
+
+pub returns-then-all_held : goal.returns-then-all_held
+returns-then-all_held c =
+    let e : c.loop-i.i ≡ c.args.net.now.size = omega arith in
+    ends-whole c.args.net.now c.requires.fields c.args.side c.loop-i.table
+    (subst (λ (n : ℕ). Entries c.args.net.now c.args.side c.loop-i.table (n * 10)) e c.loop-i.invariant) (sym c.all_held.ensures ∙ c.if-all_held.true)
+
+pub returns-else-all_held : goal.returns-else-all_held
+returns-else-all_held c =
+    let e : c.loop-i.i ≡ c.args.net.now.size = omega arith in
+    ends-vacant c.args.net.now c.requires.fields c.args.side c.loop-i.table
+    (subst (λ (n : ℕ). Entries c.args.net.now c.args.side c.loop-i.table (n * 10)) e c.loop-i.invariant) (sym c.all_held.ensures ∙ c.if-all_held.false)

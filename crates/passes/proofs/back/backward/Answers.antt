@@ -1,125 +1,68 @@
--- `passes::back::backward` meets its contract: from the end of the order; the loop's invariant is that the blocks that rest and the last i of the order have their equation.
+-- `passes::back::backward` meets its contract: from the end of the order; the loop's invariant is that the blocks that rest and those that are met have their equation.
 -- Assumes nothing.
-use mathlib.Core.Path.{◌≡◌}
-use Prim.Native.Nat.{ℕ, ◌-◌, ◌<◌}
-use native.Mathlib.Omega.{arith}
-use lib.ListN.{get_or}
+use Rattle.std.proofs.Common.{◌≡◌, subst, sym, ap, ◌∙◌, ℕ, ◌-◌, ◌<◌, List, [], ◌∷◌, ◌++◌, length, get_or, false, append-nil, length-append, arith, Iter}
+use Rattle.std.specs.declared.iter.Rev.{Rev}
+use Rattle.blocks.specs.States.{reg_in}
+use Rattle.blocks.proofs.Folds.{which}
 use Rattle.ports.specs.Places.{sig_at, ready_at}
-use Rattle.passes.specs.Rows.{kind_no, reg_in, rests_back}
-use Rattle.passes.proofs.Passes.{pass_none, pass_more, pass_all}
+use Rattle.passes.specs.Rows.{kind_no, rests_back}
+use Rattle.passes.proofs.Passes.{pass_none, pass_next, pass_all}
 use Rattle.passes.proofs.Sites.{back-pass}
 use Rattle.passes.proofs.Arms.{turns_back}
-use Rattle.blocks.proofs.Folds.{which}
-use Rattle.passes.proofs.back.backward.Lts as lts
-use Rattle.passes.proofs.back.backward.Tie as tie
-use Rattle.passes.proofs.back.backward.Reads as reads
+use Rattle.passes.proofs.Listings.{rear}
 use Rattle.passes.proofs.back.backward.Goals as goal
+use Rattle.passes.proofs.back.backward.Goals.{In-Some}
 
--- places on the way that several answers speak of
-abbrev In-loop-i : Type 0
-In-loop-i = lts.In-loop tie.the-claims reads.Pre reads.Post goal.the-invariant-loop-i goal.the-decreases-loop-i tie.handed_clauses
+-- the blocks that are met before, and where the next one stands
+abbrev met : In-Some → List ℕ
+met c = c.loop-b.invariant.0
 
-inside : (c : In-loop-i) → get_or c.args.order.now (c.args.count - 1 - c.loop-i.i) 0 < c.args.n
-inside c = (c.requires.along.listed (c.args.count - 1 - c.loop-i.i) (omega arith)).0
+here : (c : In-Some)
+    → (c.args.order.now ≡ c.next.new.self.iter.rest.now ++ (c.in-Some.b.now ∷ met c)) × (length (met c) < length c.args.order.now)
+    × (get_or c.args.order.now (length c.args.order.now - 1 - length (met c)) 0 ≡ c.in-Some.b.now)
+here c = rear c.args.order.now _ _ (met c) c.in-Some.b.now c.loop-b.invariant.1 c.in-Some.ensures.steps
 
-small : (c : In-loop-i) → get_or c.args.order.now (c.args.count - 1 - c.loop-i.i) 0 < 64
-small c = omega (arith, inside c, c.requires.rowed.few)
+-- it is a block of the net, and does not rest
+turns : (c : In-Some) → (c.in-Some.b.now < c.args.net.now.size) × (rests_back (kind_no c.args.net.now c.in-Some.b.now) ≡ false)
+turns c =
+    let at = here c in
+    let s = c.requires.along.listed (length c.args.order.now - 1 - length (met c)) (omega (arith, at.1)) in
+    subst (λ (b : ℕ). (b < c.args.net.now.size) × (rests_back (kind_no c.args.net.now b) ≡ false)) at.2 (s.0, s.1)
 
-pub loop-i-init : goal.loop-i-init
-loop-i-init c =
+pub loop-b-init : goal.loop-b-init
+loop-b-init c =
     let a = c.args in
-    (omega arith, c.requires.ready_len, λ w o values xs mask src. pass_none _ _ _ _ _ _ (back-pass a.rows.now values xs mask (reg_in a.words.now a.marks.now) a.n w (sig_at a.valid.now a.word.now) a.count a.order.now o) (ready_at a.ready.now) src)
+    let source = ap (λ (it : Rev (Iter ℕ)). it.iter) c.into_iter-b-iterator.ensures.into_iter_gives ∙ c.rev-b-items.ensures.source in
+    let rest = ap (λ (it : Iter ℕ). it.rest.now) source ∙ c.iter.ensures.rest in
+    ([], rw append-nil (sym rest), λ w o xs mask src. pass_none _ _ _ _ _ _ (back-pass a.net.now xs mask (reg_in a.state.now) w (sig_at a.signals.now) a.order.now o) (ready_at a.ready.now) src)
 
-pub overflow_sub-b : goal.overflow_sub-b
-overflow_sub-b c = omega arith
+pub invariant_of-backward_one : goal.invariant_of-backward_one
+invariant_of-backward_one c = record { ported = c.requires.rowed.ported _ (turns (goal.at.invariant_of-backward_one c).In-Some).0 }
 
-pub overflow_sub-b-in-loop-i : goal.overflow_sub-b-in-loop-i
-overflow_sub-b-in-loop-i c = omega arith
+pub backward_one-requires-clause-m_value : goal.backward_one-requires-clause-m_value
+backward_one-requires-clause-m_value c = c.requires.rowed.sound _ (turns (goal.at.backward_one-requires-clause-m_value c).In-Some).0
 
-pub bounds-order-count : goal.bounds-order-count
-bounds-order-count c = omega (arith, c.requires.count_bound)
+pub backward_one-requires-clause-settled : goal.backward_one-requires-clause-settled
+backward_one-requires-clause-settled c = rw c.reg.ensures (c.requires.all_settled _ (turns (goal.at.backward_one-requires-clause-settled c).In-Some).0)
 
-pub overflow_cast-b : goal.overflow_cast-b
-overflow_cast-b c = omega (arith, small c.before.before.before)
-
-pub overflow_mul-row : goal.overflow_mul-row
-overflow_mul-row c = omega (arith, small c.before.before.before)
-
-pub offset_bounds-words-b : goal.offset_bounds-words-b
-offset_bounds-words-b c = omega (arith, small c.before.before.before)
-
-pub bounds-words-b : goal.bounds-words-b
-bounds-words-b c =
-    let outset = c.before.before.before.before in
-    omega (arith, small outset)
-
-pub bounds-marks-b : goal.bounds-marks-b
-bounds-marks-b c =
-    let outset = c.before.before.before.before.before.before in
-    omega (arith, small outset)
-
-pub overflow_add-row : goal.overflow_add-row
-overflow_add-row c =
-    let outset = c.before.before.before.before.before.before.before in
-    omega (arith, small outset)
-
-pub bounds-rows-row : goal.bounds-rows-row
-bounds-rows-row c =
-    let outset = c.before.before.before.before.before.before.before.before in
-    omega (arith, small outset)
-
-pub overflow_add-row-in-loop-i : goal.overflow_add-row-in-loop-i
-overflow_add-row-in-loop-i c =
-    let outset = c.before.before.before.before.before.before.before.before.before in
-    omega (arith, small outset)
-
-pub bounds-rows-row-in-loop-i : goal.bounds-rows-row-in-loop-i
-bounds-rows-row-in-loop-i c =
-    let outset = c.before.before.before.before.before.before.before.before.before in
-    omega (arith, small outset)
-
-pub backward_one-requires : goal.backward_one-requires
-backward_one-requires c =
-    let outset = c.before.before.before.before.before.before.before.before.before.before.before in
-    let w = c.requires.rowed in
-    let low = inside outset in
-    record {
-      ported = w.ported _ low;
-      ready_len = c.loop-i.invariant.1;
-      m_value = w.sound _ low;
-      reg_value = c.requires.shaped _ low;
-      apart = (λ i j hi hj e. (w.ins_apart _ _ i j low low hi hj e).1);
-      settled = c.requires.all_settled _ low;
-    }
-
-pub overflow_add-i : goal.overflow_add-i
-overflow_add-i c = omega (arith, c.requires.count_bound)
-
-pub loop-i-smaller : goal.loop-i-smaller
-loop-i-smaller c = omega arith
-
-pub loop-i-preserved : goal.loop-i-preserved
-loop-i-preserved c =
-    let l = c.loop-i in
+pub loop-b-preserved-in-Some-of : goal.loop-b-preserved-in-Some-of
+loop-b-preserved-in-Some-of c =
+    let p = (goal.at.loop-b-preserved-in-Some-of c).In-Some in
     let a = c.args in
-    let at : ℕ = get_or a.order.now (a.count - 1 - l.i) 0 in (
-      omega arith,
-      c.backward_one.ensures.ready_len_2,
-      λ w o values xs mask src.
-          pass_more _ _ _ _ _ _ (back-pass a.rows.now values xs mask (reg_in a.words.now a.marks.now) a.n w (sig_at a.valid.now a.word.now) a.count a.order.now o) _ _ l.i (omega arith)
-          (l.invariant.2 w o values xs mask src) ((c.backward_one.ensures.by_index (get_or values at 0) (xs at) (mask at)).works (turns_back (kind_no a.rows.now at) (o.listed (a.count - 1 - l.i) (omega arith)).1)),
+    let b : ℕ = c.in-Some.b.now in
+    let at = here p in (
+      b ∷ met p,
+      at.0,
+      λ w o xs mask src.
+          pass_next _ _ _ _ _ _ (back-pass a.net.now xs mask (reg_in a.state.now) w (sig_at a.signals.now) a.order.now o) _ _ (length (met p)) b at.1 at.2
+          (c.loop-b.invariant.2 w o xs mask src) ((rw c.reg.ensures at (c.backward_one.ensures (xs b) (mask b))).works (turns_back (kind_no a.net.now b) (turns p).1)),
     )
 
 pub returns : goal.returns
-returns c =
-    let l = c.loop-i in
+returns c xs mask src b lb =
     let a = c.args in
-    let all : l.i ≡ a.count = omega arith in
-    let w = c.requires.rowed in
     let o = c.requires.along in
-    record {
-      by_index = λ values xs mask src b lb.
-          pass_all _ _ _ _ _ _ (back-pass a.rows.now values xs mask (reg_in a.words.now a.marks.now) a.n w (sig_at a.valid.now a.word.now) a.count a.order.now o) (ready_at l.ready)
-          (rw all at (l.invariant.2 w o values xs mask src)) b lb (which (rests_back (kind_no a.rows.now b)));
-      ready_len_2 = l.invariant.1;
-    }
+    let parts = ap length c.loop-b.invariant.1 ∙ length-append c.loop-b.b-iterator.iter.rest.now c.loop-b.invariant.0 in
+    let all : length c.loop-b.invariant.0 ≡ length a.order.now = omega (arith, parts, c.in-None.ensures.steps.0) in
+    pass_all _ _ _ _ _ _ (back-pass a.net.now xs mask (reg_in a.state.now) c.requires.rowed (sig_at a.signals.now) a.order.now o) (ready_at c.loop-b.ready)
+    (rw all at (c.loop-b.invariant.2 c.requires.rowed o xs mask src)) b lb (which (rests_back (kind_no a.net.now b)))

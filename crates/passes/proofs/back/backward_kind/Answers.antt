@@ -1,152 +1,30 @@
--- `passes::back::backward_kind` meets its contract: one of the kind after the other; the loop's invariant is that those that were done and the first i of the kind have their equation.
+-- `passes::back::backward_kind` meets its contract: one of the kind after the other; the loop's invariant is that those that were done and the first of the kind have their equation.
 -- Assumes nothing.
-use mathlib.Core.Path.{◌≡◌}
-use Prim.Native.Nat.{ℕ, ◌≤◌, ◌<◌}
-use native.Mathlib.Omega.{arith}
-use mathlib.Core.Bool.{true}
-use lib.ListN.{get_or}
-use mathlib.Core.Path.{subst}
-use mathlib.Core.List.{[]}
-use borrow.Author.Tests.{eqb-true}
-use Rattle.blocks.specs.Kinds.{kind_of}
-use Rattle.blocks.specs.Ports.{m_ok, inputs_of}
-use Rattle.blocks.specs.Shape.{in_shape}
-use Rattle.ports.specs.Places.{port_at, Apart}
-use Rattle.passes.proofs.Listings.{listed-few}
+use Rattle.std.proofs.Common.{◌≡◌, ℕ, length, get_or, eqb-true, arith}
+use Rattle.blocks.specs.Numbers.{kind_number}
+use Rattle.blocks.specs.States.{reg_in}
 use Rattle.ports.specs.Places.{sig_at, ready_at}
-use Rattle.passes.specs.Rows.{kind_no, m_no, base_no, in_kind, reg_in, Listed}
-use Rattle.passes.specs.Passed.{Settled}
-use Rattle.passes.proofs.Passes.{pass_none, pass_more, pass_all}
+use Rattle.passes.specs.Rows.{kind_no}
+use Rattle.passes.proofs.Passes.{pass_more, pass_all}
 use Rattle.passes.proofs.Sites.{back-kind}
-use Rattle.passes.proofs.Arms.{back_same}
-use Rattle.passes.proofs.back.backward_kind.Lts as lts
-use Rattle.passes.proofs.back.backward_kind.Tie as tie
-use Rattle.passes.proofs.back.backward_kind.Reads as reads
+use Rattle.passes.proofs.Listings.{listed_of}
 use Rattle.passes.proofs.back.backward_kind.Goals as goal
 
--- places on the way that several answers speak of
-abbrev In-loop-i : Type 0
-In-loop-i = lts.In-loop tie.the-claims reads.Pre reads.Post goal.the-invariant-loop-i goal.the-decreases-loop-i tie.handed_clauses
-
-abbrev kind : (c : In-loop-i) → ℕ
-kind c = c.args.kind
-
-list : (c : In-loop-i) → Listed c.args.rows.now c.args.n (kind c) (get_or c.args.counts.now (kind c) 0) (in_kind c.args.lists.now (kind c))
-list c = c.requires.kinds (kind c) c.requires.kind_bound.0
-
-few : (c : In-loop-i) → get_or c.args.counts.now (kind c) 0 ≤ 64
-few c = listed-few c.args.rows.now c.args.n (kind c) _ _ c.requires.rowed (list c)
-
-inside : (c : In-loop-i) → in_kind c.args.lists.now (kind c) c.loop-i.i < c.args.n
-inside c = ((list c).each c.loop-i.i (omega arith)).0
-
-small : (c : In-loop-i) → in_kind c.args.lists.now (kind c) c.loop-i.i < 64
-small c = omega (arith, inside c, c.requires.rowed.few)
-
--- a block of the list has the kind
-same : (c : In-loop-i) → kind_no c.args.rows.now (in_kind c.args.lists.now (kind c) c.loop-i.i) ≡ kind c
-same c = eqb-true _ _ ((list c).each c.loop-i.i (omega arith)).1
-
-pub overflow_mul-first : goal.overflow_mul-first
-overflow_mul-first c = omega (arith, c.requires.kind_bound.0)
-
-pub offset_bounds-counts-kind : goal.offset_bounds-counts-kind
-offset_bounds-counts-kind c = omega (arith, c.requires.kind_bound.0)
-
-pub bounds-counts-kind : goal.bounds-counts-kind
-bounds-counts-kind c = omega (arith, c.requires.kind_bound.0)
-
-pub loop-i-init : goal.loop-i-init
-loop-i-init c =
+pub loop-b-preserved : goal.loop-b-preserved
+loop-b-preserved c w listed rest xs mask done resting src =
     let a = c.args in
-    (omega arith, c.requires.ready_len, λ w l rest values xs mask done resting src. pass_none _ _ _ _ _ _ (back-kind a.rows.now values xs mask (reg_in a.words.now a.marks.now) a.n w (sig_at a.valid.now a.word.now) a.kind _ _ l done rest resting) (ready_at a.ready.now) src)
-
-pub overflow_add-b : goal.overflow_add-b
-overflow_add-b c = omega (arith, c.requires.kind_bound.0, few c.before)
-
-pub bounds-lists-first : goal.bounds-lists-first
-bounds-lists-first c = omega (arith, c.requires.kind_bound.0, few c.before.before)
-
-pub overflow_cast-b : goal.overflow_cast-b
-overflow_cast-b c = omega (arith, small c.before.before.before)
-
-pub overflow_mul-row : goal.overflow_mul-row
-overflow_mul-row c = omega (arith, small c.before.before.before)
-
-pub offset_bounds-words-b : goal.offset_bounds-words-b
-offset_bounds-words-b c = omega (arith, small c.before.before.before)
-
-pub bounds-words-b : goal.bounds-words-b
-bounds-words-b c =
-    let outset = c.before.before.before.before in
-    omega (arith, small outset)
-
-pub bounds-marks-b : goal.bounds-marks-b
-bounds-marks-b c =
-    let outset = c.before.before.before.before.before.before in
-    omega (arith, small outset)
-
-pub overflow_add-row : goal.overflow_add-row
-overflow_add-row c =
-    let outset = c.before.before.before.before.before.before.before in
-    omega (arith, small outset)
-
-pub bounds-rows-row : goal.bounds-rows-row
-bounds-rows-row c =
-    let outset = c.before.before.before.before.before.before.before.before in
-    omega (arith, small outset)
-
-pub backward_one-requires : goal.backward_one-requires
-backward_one-requires c =
-    let outset = c.before.before.before.before.before.before.before.before.before.before in
-    let w = c.requires.rowed in
-    let a = c.args in
-    let low = inside outset in
-    let at : ℕ = in_kind a.lists.now a.kind c.loop-i.i in
-    let m : ℕ = m_no a.rows.now at in
-    record {
-      ported = w.ported _ low;
-      ready_len = c.loop-i.invariant.1;
-      m_value = subst (λ (k : ℕ). m_ok k m ≡ true) (same outset) (w.sound _ low);
-      reg_value = subst (λ (k : ℕ). in_shape (kind_of k m 0 []) (reg_in a.words.now a.marks.now at) ≡ true) (same outset) (c.requires.shaped _ low);
-      apart = subst (λ (k : ℕ). Apart (port_at a.rows.now (base_no at)) (inputs_of k m)) (same outset) (λ i j hi hj e. (w.ins_apart _ _ i j low low hi hj e).1);
-      settled = subst (λ (k : ℕ). Settled k m (reg_in a.words.now a.marks.now at) a.rows.now (base_no at) a.valid.now a.word.now) (same outset) (c.requires.all_settled _ low);
-    }
-
-pub overflow_add-i : goal.overflow_add-i
-overflow_add-i c =
-    let outset = c.before.before.before.before.before.before.before.before.before.before.before in
-    omega (arith, few outset)
-
-pub loop-i-smaller : goal.loop-i-smaller
-loop-i-smaller c = omega arith
-
-pub loop-i-preserved : goal.loop-i-preserved
-loop-i-preserved c =
-    let outset = c.before.before.before.before.before.before.before.before.before.before.before in
-    let l = c.loop-i in
-    let a = c.args in
-    let at : ℕ = in_kind a.lists.now a.kind l.i in (
-      omega arith,
-      c.backward_one.ensures.ready_len_2,
-      λ w k rest values xs mask done resting src.
-          pass_more _ _ _ _ _ _ (back-kind a.rows.now values xs mask (reg_in a.words.now a.marks.now) a.n w (sig_at a.valid.now a.word.now) a.kind _ _ k done rest resting) _ _ l.i (omega arith)
-          (l.invariant.2 w k rest values xs mask done resting src)
-          (back_same a.kind (kind_no a.rows.now at) (m_no a.rows.now at) (get_or values at 0) (same outset) a.rows.now (base_no at) (mask at) (reg_in a.words.now a.marks.now at) (xs at) (sig_at a.valid.now a.word.now) _ _
-          c.requires.kind_bound.2 (c.backward_one.ensures.by_index (get_or values at 0) (xs at) (mask at))),
-    )
+    let i : ℕ = c.loop-b.b-index in
+    let b : ℕ = get_or c.of_kind-list.result.now i 0 in
+    pass_more _ _ _ _ _ _ (back-kind a.net.now xs mask (reg_in a.state.now) w (sig_at a.signals.now) (kind_number a.kind) c.of_kind-list.result.now listed done rest resting) _ _ i (omega arith)
+    (c.loop-b.invariant w listed rest xs mask done resting src)
+    ((rw c.reg.ensures at (c.backward_one.ensures (xs b) (mask b))).works (rw (eqb-true (kind_no a.net.now b) (kind_number a.kind) (listed.each i (omega arith)).1) c.requires.kind_rests.1))
 
 pub returns : goal.returns
-returns c =
-    let l = c.loop-i in
+returns c xs mask done resting src =
     let a = c.args in
-    let all : l.i ≡ get_or a.counts.now a.kind 0 = omega arith in
-    let w = c.requires.rowed in
-    let k = c.requires.kinds a.kind c.requires.kind_bound.0 in
-    let rest = c.requires.kind_bound.1 in
-    record {
-      by_index = λ values xs mask done resting src.
-          pass_all _ _ _ _ _ _ (back-kind a.rows.now values xs mask (reg_in a.words.now a.marks.now) a.n w (sig_at a.valid.now a.word.now) a.kind _ _ k done rest resting) (ready_at l.ready)
-          (rw all at (l.invariant.2 w k rest values xs mask done resting src));
-      ready_len_2 = l.invariant.1;
-    }
+    let listed = listed_of a.net.now a.sorted.now a.kind _ c.requires.kinds c.of_kind-list.ensures in
+    let rest = c.requires.kind_rests.0 in
+    let all : c.loop-b.b-index ≡ length c.of_kind-list.result.now = omega arith in
+    pass_all _ _ _ _ _ _ (back-kind a.net.now xs mask (reg_in a.state.now) c.requires.rowed (sig_at a.signals.now) (kind_number a.kind) c.of_kind-list.result.now listed done rest resting)
+    (ready_at c.loop-b.ready)
+    (rw all at (c.loop-b.invariant c.requires.rowed listed rest xs mask done resting src))

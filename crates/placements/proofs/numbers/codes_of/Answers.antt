@@ -1,4 +1,4 @@
--- `placements::numbers::codes_of` meets its contract: digit after digit from the last; the loop's invariant is that the last j codes are written, those beyond are 0, and rest is
+-- `placements::numbers::codes_of` meets its contract: digit after digit from the last; the loop's invariant is that the codes from j on are written, those beyond are 0, and rest is
 -- what is above them.
 -- Assumes nothing.
 use mathlib.Core.Path.{◌≡◌, refl, ap, sym, ◌∙◌}
@@ -15,62 +15,49 @@ use Rattle.placements.proofs.Padding.{padded_is}
 use Rattle.placements.proofs.numbers.codes_of.Invariants.{Written}
 use Rattle.placements.proofs.numbers.codes_of.Goals as goal
 
-module _ (n k j rest : ℕ) (few : n ≤ 6) (hj : j < n) (is : rest ≡ k / 4 ^ j) (codes : List ℕ) (w : Written n k j codes) where
+module _ (n k j rest : ℕ) (few : n ≤ 6) (some : 0 < j) (hj : j ≤ n) (is : rest ≡ k / 4 ^ (n - j)) (codes : List ℕ) (w : Written n k j codes) where
   abbrev more : List ℕ
-  more = set codes (n - 1 - j) (rest % 4)
+  more = set codes (j - 1) (rest % 4)
 
-  digit : (i : ℕ) → n ≤ i + (j + 1) → i < n → Dec (i ≡ n - 1 - j) → get_or more i 0 ≡ (k / 4 ^ (n - 1 - i)) % 4
+  digit : (i : ℕ) → j - 1 ≤ i → i < n → Dec (i ≡ j - 1) → get_or more i 0 ≡ (k / 4 ^ (n - 1 - i)) % 4
   digit i h q (yes z) =
-      let back : j ≡ n - 1 - i = omega arith in
+      let back : n - j ≡ n - 1 - i = omega arith in
       ap (λ (x : ℕ). get_or more x 0) z
-      ∙ get_or-set_same codes (n - 1 - j) (rest % 4) 0 (omega (arith, w.long))
+      ∙ get_or-set_same codes (j - 1) (rest % 4) 0 (omega (arith, w.long))
       ∙ ap (λ (x : ℕ). x % 4) (is ∙ ap (λ (x : ℕ). k / 4 ^ x) back)
-  digit i h q (no z) = get_or-set_other codes (n - 1 - j) i (rest % 4) 0 z ∙ w.last i (omega arith) q
+  digit i h q (no z) = get_or-set_other codes (j - 1) i (rest % 4) 0 z ∙ w.last i (omega arith) q
 
-  one_more : Written n k (j + 1) more
+  one_more : Written n k (j - 1) more
   one_more =
       record {
-        long = length-set codes (n - 1 - j) (rest % 4) ∙ w.long;
-        last = λ i h q. digit i h q (ℕ_discrete i (n - 1 - j));
-        beyond = λ i h q. get_or-set_other codes (n - 1 - j) i (rest % 4) 0 (λ z. omega arith) ∙ w.beyond i h q;
+        long = length-set codes (j - 1) (rest % 4) ∙ w.long;
+        last = λ i h q. digit i h q (ℕ_discrete i (j - 1));
+        beyond = λ i h q. get_or-set_other codes (j - 1) i (rest % 4) 0 (λ z. omega arith) ∙ w.beyond i h q;
       }
+
+  less : rest / 4 ≡ k / 4 ^ (n - (j - 1))
+  less =
+      let up : n - j + 1 ≡ n - (j - 1) = omega arith in
+      ap (λ (x : ℕ). x / 4) is ∙ rest_more k (n - j) ∙ ap (λ (x : ℕ). k / 4 ^ x) up
 
 pub loop-j-init : goal.loop-j-init
 loop-j-init c =
-    (omega arith, sym (div-one c.args.k), record { long = refl; last = λ i h l. absurd (omega arith); beyond = λ i h q. get_or-replicate {A = ℕ} 6 i 0 0 q })
-
-pub overflow_cast-codes : goal.overflow_cast-codes
-overflow_cast-codes c = omega arith
-
-pub overflow_sub-codes : goal.overflow_sub-codes
-overflow_sub-codes c = omega arith
-
-pub overflow_sub-codes-in-loop-j : goal.overflow_sub-codes-in-loop-j
-overflow_sub-codes-in-loop-j c = omega arith
-
-pub bounds-codes-n : goal.bounds-codes-n
-bounds-codes-n c = omega (arith, c.requires)
-
-pub overflow_add-j : goal.overflow_add-j
-overflow_add-j c = omega arith
-
-pub loop-j-smaller : goal.loop-j-smaller
-loop-j-smaller c = omega arith
+    let none : c.args.n - c.args.n ≡ 0 = omega arith in
+    (rw none (sym (div-one c.args.k)), record { long = refl; last = λ i h l. absurd (omega arith); beyond = λ i h q. get_or-replicate {A = ℕ} 6 i 0 0 q })
 
 pub loop-j-preserved : goal.loop-j-preserved
 loop-j-preserved c =
     let a = c.args in
     let l = c.loop-j in (
-      omega arith,
-      ap (λ (x : ℕ). x / 4) l.invariant.1 ∙ rest_more a.k l.j,
-      one_more a.n a.k l.j l.rest c.requires (omega arith) l.invariant.1 l.codes l.invariant.2,
+      less a.n a.k l.j l.rest c.requires c.loop-j-test.true l.auto.j l.invariant.0 l.codes l.invariant.1,
+      one_more a.n a.k l.j l.rest c.requires c.loop-j-test.true l.auto.j l.invariant.0 l.codes l.invariant.1,
     )
 
 pub returns : goal.returns
 returns c =
     let a = c.args in
     let l = c.loop-j in
-    let w = c.loop-j.invariant.2 in
+    let w = l.invariant.1 in
     let long = codes_length a.n a.k in
     padded_is 6 (codes_of a.n a.k) (omega (arith, long, c.requires)) l.codes w.long
     (λ i h. let q : i < a.n = omega (arith, long) in w.last i (omega arith) q ∙ sym (digit_at a.n a.k i q))

@@ -35,38 +35,20 @@ module _ (n k : ℕ) (few : n ≤ 6) (codes : List ℕ) (are : codes ≡ padded 
       ∙ ap (padded 0 7) (sym (digits_more (codes_of n k) i (omega (arith, long))))
       ∙ ap (λ (j : ℕ). padded 0 7 (digits_of (take j (codes_of n k)))) (sym (add-one i))
 
-pub codes_of-codes-requires : goal.codes_of-codes-requires
-codes_of-codes-requires c = c.requires
-
 pub loop-i-init : goal.loop-i-init
 unfolding padded
-loop-i-init c = (omega arith, refl)
-
-pub bounds-codes-i : goal.bounds-codes-i
-bounds-codes-i c = omega (arith, c.requires)
+loop-i-init c = refl
 
 pub overflow_add-line : goal.overflow_add-line
 overflow_add-line c =
     let a = c.args in
     omega (arith, code_small a.n a.k c.requires c.codes_of-codes.result c.codes_of-codes.ensures c.loop-i.i (omega arith))
 
-pub bounds-line-i : goal.bounds-line-i
-bounds-line-i c = omega (arith, c.requires)
-
-pub overflow_add-i : goal.overflow_add-i
-overflow_add-i c = omega arith
-
-pub loop-i-smaller : goal.loop-i-smaller
-loop-i-smaller c = omega arith
-
 pub loop-i-preserved : goal.loop-i-preserved
 loop-i-preserved c =
     let a = c.args in
     let l = c.loop-i in
-    (omega arith, one_digit a.n a.k c.requires c.codes_of-codes.result c.codes_of-codes.ensures l.i (omega arith) l.line l.invariant.1)
-
-pub bounds-line-n : goal.bounds-line-n
-bounds-line-n c = omega (arith, c.requires)
+    one_digit a.n a.k c.requires c.codes_of-codes.result c.codes_of-codes.ensures l.i (omega arith) l.line l.invariant
 
 pub returns : goal.returns
 returns c =
@@ -76,5 +58,5 @@ returns c =
     let long = codes_length a.n a.k in
     let whole : take l.i codes ≡ codes = take_all l.i codes (omega (arith, long)) in
     let digits : length (digits_of codes) ≡ a.n = ap (λ (x : List ℕ). length (digits_of x)) (sym whole) ∙ digits_long codes l.i (omega (arith, long)) ∙ omega arith in
-    ap (λ (x : List ℕ). set x a.n 10) (l.invariant.1 ∙ ap (λ (x : List ℕ). padded 0 7 (digits_of x)) whole)
+    ap (λ (x : List ℕ). set x a.n 10) (l.invariant ∙ ap (λ (x : List ℕ). padded 0 7 (digits_of x)) whole)
     ∙ set-padded 0 7 (digits_of codes) a.n 10 digits (omega (arith, c.requires))

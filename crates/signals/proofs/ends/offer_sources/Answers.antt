@@ -1,125 +1,67 @@
--- `signals::ends::offer_sources` meets its contract: source after source; the loop's invariant is that the first k show what they offer, that start is the end before source k, and that rest is the mask from bit k on.
+-- `signals::ends::offer_sources` meets its contract: source after source; the loop's invariant is that the first k show what they offer, that their ends are numbers of 32 bits, that start is the end before source k, and that rest is the mask from bit k on.
 -- Assumes nothing.
-use mathlib.Core.Path.{◌≡◌, refl, sym, ap, ap₂, ◌∙◌, subst}
-use Prim.Native.Nat.{ℕ, ◌%◌, ◌≤◌, ◌<◌}
-use native.Mathlib.Omega.{arith}
-use mathlib.Core.Bool.{Bool}
-use lib.Dec.{eqb}
-use lib.ListN.{get_or, length}
-use lib.Seq.{slice}
-use borrow.Author.Count.{below_more, below_none}
-use Rattle.ports.specs.Places.{sig_at, port_at}
+use Rattle.std.proofs.Common.{◌≡◌, ℕ, ◌<◌, ◌%◌, ◌^◌, Bool, sym, subst, ap, ap₂, ◌∙◌, refl, arith, eqb, length, get_or, below_more, eqb-true}
+use Rattle.std.proofs.Math.Seq.{slice}
 use Rattle.blocks.specs.Folds.{bit}
 use Rattle.blocks.specs.Equations.{source_out}
-use Rattle.passes.specs.Rows.{reg_in, kind_no, base_no}
-use Rattle.rows.specs.Ends.{stream_no, stream_at, mask_at, number_no}
-use Rattle.rows.proofs.Lists.{among_few, among_block, among_kind, among_number, among_apart}
-use Rattle.signals.proofs.EndLaws.{sources_apart, source-holds, source-bit, end_next}
-use Rattle.ports.proofs.ByKind.{port_first}
+use Rattle.blocks.specs.States.{reg_in}
+use Rattle.blocks.specs.declared.Kind.TheVariants.{Source}
+use Rattle.blocks.specs.declared.Reg.{Reg}
 use Rattle.blocks.proofs.Bits.{bit-zero, bit-rest, rest_half}
-use Rattle.trace.specs.Numbers.{given}
-use Rattle.signals.proofs.ends.offer_sources.Lts as lts
-use Rattle.signals.proofs.ends.offer_sources.Tie as tie
-use Rattle.signals.proofs.ends.offer_sources.Reads as reads
+use Rattle.ports.specs.Places.{sig_at}
+use Rattle.ports.proofs.ByKind.{port_first}
+use Rattle.passes.specs.Rows.{block_no, in_no, Listed}
+use Rattle.passes.proofs.Listings.{listed_at, listed_once, listed_of}
+use Rattle.rows.specs.Ends.{read, stream_no, stream_at, mask_at}
+use Rattle.signals.proofs.EndLaws.{sources_apart, source-holds, source-bit, end_next}
 use Rattle.signals.proofs.ends.offer_sources.Goals as goal
-
--- places on the way that several answers speak of
-abbrev In-loop-k : Type 0
-In-loop-k = lts.In-loop tie.the-claims reads.Pre reads.Post goal.the-invariant-loop-k goal.the-decreases-loop-k tie.handed_clauses
-
-inside : (c : In-loop-k) → get_or c.args.sources.now c.loop-k.k 0 < c.requires.among.size
-inside c = among_block _ 0 _ _ c.requires.among c.loop-k.k (omega arith)
-
-small : (c : In-loop-k) → get_or c.args.sources.now c.loop-k.k 0 < 64
-small c = omega (arith, inside c, c.requires.among.rowed.few)
-
-pub loop-k-init : goal.loop-k-init
-loop-k-init c = (omega arith, omega arith, refl, c.requires.sized, below_none _)
-
-pub bounds-sources-k : goal.bounds-sources-k
-bounds-sources-k c = omega (arith, among_few c.args.rows.now 0 c.args.count _ c.requires.among)
-
-pub overflow_cast-b : goal.overflow_cast-b
-overflow_cast-b c = omega (arith, small c.before.before.before)
-
-pub number_in-end-requires : goal.number_in-end-requires
-number_in-end-requires c = omega (arith, c.requires.fitting.each)
-
-pub offset_bounds-words-b : goal.offset_bounds-words-b
-offset_bounds-words-b c =
-    let outset = c.before.before.before.before in
-    omega (arith, small outset)
-
-pub bounds-words-b : goal.bounds-words-b
-bounds-words-b c =
-    let outset = c.before.before.before.before.before in
-    omega (arith, small outset)
-
-pub bounds-marks-b : goal.bounds-marks-b
-bounds-marks-b c =
-    let outset = c.before.before.before.before.before.before.before in
-    omega (arith, small outset)
-
-pub overflow_mul-b : goal.overflow_mul-b
-overflow_mul-b c =
-    let outset = c.before.before.before.before.before.before.before.before in
-    omega (arith, small outset)
-
-pub offer_one-requires : goal.offer_one-requires
-offer_one-requires c =
-    let outset = c.before.before.before.before.before.before.before.before.before.before in
-    let a = c.args in
-    let m = c.requires.among in
-    let l = c.loop-k in
-    let f = c.requires.fitting in
-    let e = c.number_in-end.ensures in
-    record {
-      ported = m.rowed.ported _ (inside outset);
-      sized = l.invariant.3;
-      start_le_end = (subst (λ (x : ℕ). l.start ≤ x) (sym e) (rw l.invariant.2 (f.up l.k (omega arith))), subst (λ (x : ℕ). x ≤ length (given a.bytes.now a.stream.now)) (sym e) (f.within l.k (omega arith)));
-    }
-
-pub overflow_add-k : goal.overflow_add-k
-overflow_add-k c = omega arith
-
-pub loop-k-smaller : goal.loop-k-smaller
-loop-k-smaller c = omega arith
 
 pub loop-k-preserved : goal.loop-k-preserved
 loop-k-preserved c =
     let l = c.loop-k in
     let a = c.args in
-    let m = c.requires.among in
-    let here : ℕ = get_or a.sources.now l.k 0 in
-    let e = c.number_in-end.ensures in
-    let put = c.offer_one.ensures.put in (
-      omega arith,
-      rest_half l.k a.offer l.rest l.invariant.1,
-      e ∙ end_next (given a.end_bytes.now a.ends.now) l.k,
-      c.offer_one.ensures.sized_2,
-      below_more (λ j. sig_at c.offer_one.new.valid c.offer_one.new.word (port_at a.rows.now (base_no (get_or a.sources.now j 0)) 0) ≡ source_out (stream_no (given a.bytes.now a.stream.now) (given a.end_bytes.now a.ends.now) j) (reg_in a.words.now a.marks.now (get_or a.sources.now j 0)) (bit j a.offer)) l.k
+    let laid = a.laid.now in
+    let net = laid.net.now in
+    let W = read a.streams.words in
+    let E = read a.streams.ends in
+    let list = c.of_kind-list.result.now in
+    let at : ℕ → ℕ = λ j. get_or list j 0 in
+    let q : Listed net 0 list = listed_of net laid.sorted Source list laid.kinds c.of_kind-list.ensures in
+    let here = q.each l.k c.loop-k-test.true in
+    let e = c.at-end.ensures in
+    let put = c.offer_one.ensures in
+    let r : ℕ → Reg = reg_in a.state.now in (
+      rest_half l.k a.offer l.rest l.invariant.0,
+      e ∙ end_next E l.k,
+      below_more (λ j. get_or E j 0 < 2 ^ 32) l.k l.invariant.2 (subst (λ (x : ℕ). x < 2 ^ 32) e (omega arith)),
+      below_more (λ j. sig_at c.offer_one.new.signals (in_no net (at j) 0) ≡ source_out (stream_no W E j) (r (at j)) (bit j a.offer)) l.k
           (λ j lj.
-          put.others (port_at a.rows.now (base_no (get_or a.sources.now j 0)) 0)
-          (λ o lo e. let z : j ≡ l.k = among_apart a.rows.now 0 a.count _ m j l.k (omega arith) (omega arith)
-          (sources_apart a.rows.now m.size m.rowed (get_or a.sources.now j 0) here (among_block a.rows.now 0 a.count _ m j (omega arith)) (among_block a.rows.now 0 a.count _ m l.k (omega arith))
-          (among_kind a.rows.now 0 a.count _ m j (omega arith)) (among_kind a.rows.now 0 a.count _ m l.k (omega arith)) (e ∙ sym (port_first a.rows.now (base_no here) 0 o lo))) in omega arith)
-          ∙ l.invariant.4 j lj)
-          (put.own 0 (omega arith) ∙ ap (λ (x : ℕ). source_out (slice l.start x (given a.bytes.now a.stream.now)) (reg_in a.words.now a.marks.now here) (eqb (l.rest % 2) 1)) e ∙ ap₂ (λ (x : ℕ) (t : Bool). source_out (slice x (get_or (given a.end_bytes.now a.ends.now) l.k 0) (given a.bytes.now a.stream.now)) (reg_in a.words.now a.marks.now here) t) l.invariant.2
-          (sym (bit-zero l.rest) ∙ ap (bit 0) l.invariant.1 ∙ bit-rest l.k a.offer)),
+          let low : j < length list = omega (arith, c.loop-k-test.true) in
+          let there = q.each j low in
+          put.others (in_no net (at j) 0)
+          (λ o lo z.
+          let same : j ≡ l.k = listed_once net 0 list q j l.k low c.loop-k-test.true (sources_apart net laid.rowed (at j) (at l.k) there.0 here.0 (eqb-true _ _ there.1) (eqb-true _ _ here.1)
+          (z ∙ sym (port_first (block_no net (at l.k)) 0 o lo))) in omega arith)
+          ∙ l.invariant.3 j lj)
+          (put.own 0 (omega arith)
+          ∙ ap (λ (x : Reg). source_out (slice l.start c.at-end.result W) x (eqb (l.rest % 2) 1)) c.reg.ensures
+          ∙ ap₂ (λ (x y : ℕ). source_out (slice x y W) (r (at l.k)) (eqb (l.rest % 2) 1)) l.invariant.1 e
+          ∙ ap (source_out (stream_no W E l.k) (r (at l.k))) (sym (bit-zero l.rest) ∙ ap (bit 0) l.invariant.0 ∙ bit-rest l.k a.offer)),
     )
 
-pub returns : goal.returns
-returns c =
+pub returns-clause-offered : goal.returns-clause-offered
+returns-clause-offered c ready b lb t =
     let l = c.loop-k in
     let a = c.args in
-    let m = c.requires.among in
-    record {
-      by_index = λ values ready k h.
-          let at : ℕ = get_or a.sources.now k 0 in
-          let e : kind_no a.rows.now at ≡ 0 = among_kind a.rows.now 0 a.count _ m k h in
-          let num : number_no a.rows.now 0 at ≡ k = among_number a.rows.now 0 a.count _ m k h in
-          source-holds a.rows.now values (stream_at a.rows.now (given a.bytes.now a.stream.now) (given a.end_bytes.now a.ends.now)) (mask_at a.rows.now a.offer ready) (reg_in a.words.now a.marks.now) at e (sig_at l.valid l.word)
-          (l.invariant.4 k (omega arith)
-          ∙ ap₂ (λ (x : ℕ) (t : Bool). source_out (stream_no (given a.bytes.now a.stream.now) (given a.end_bytes.now a.ends.now) x) (reg_in a.words.now a.marks.now at) t) (sym num) (sym (source-bit a.rows.now a.offer ready at k e num)));
-      sized_2 = l.invariant.3;
-    }
+    let laid = a.laid.now in
+    let net = laid.net.now in
+    let W = read a.streams.words in
+    let E = read a.streams.ends in
+    let list = c.of_kind-list.result.now in
+    let q : Listed net 0 list = listed_of net laid.sorted Source list laid.kinds c.of_kind-list.ensures in
+    let r : ℕ → Reg = reg_in a.state.now in
+    let p = listed_at net 0 list q b lb t in
+    let k = eqb-true _ _ t in
+    source-holds net (stream_at net W E) (mask_at net a.offer ready) r b k (sig_at l.signals)
+    (ap (λ (x : ℕ). sig_at l.signals (in_no net x 0)) (sym p.1) ∙ l.invariant.3 _ (omega (arith, p.0))
+    ∙ ap₂ (λ (x : ℕ) (v : Bool). source_out (stream_at net W E b) (r x) v) p.1 (sym (source-bit net a.offer ready b _ k refl)))

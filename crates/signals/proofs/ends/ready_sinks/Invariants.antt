@@ -1,17 +1,10 @@
--- `signals::ends::ready_sinks` meets its contract: sink after sink; the loop's invariant is that the first k are ready as their bits say, and that rest is the mask from bit k on.
+-- `signals::ends::ready_sinks` meets its contract: sink after sink; the loop's invariant is that the first are ready as their bits say, and that rest is the mask from the next one's bit on.
 -- Assumes nothing.
-use mathlib.Core.Path.{◌≡◌}
-use Prim.Native.Nat.{ℕ, ◌+◌, ◌-◌, ◌/◌, ◌^◌, ◌≤◌, ◌<◌}
-use lib.ListN.{get_or, length}
-use Rattle.ports.specs.Places.{ready_at, port_at}
+use Rattle.std.proofs.Common.{◌≡◌, ℕ, ◌/◌, ◌^◌, ◌<◌, get_or}
 use Rattle.blocks.specs.Folds.{bit}
-use Rattle.passes.specs.Rows.{base_no}
+use Rattle.ports.specs.Places.{ready_at}
+use Rattle.passes.specs.Rows.{in_no}
 use Rattle.signals.proofs.ends.ready_sinks.Given as goal
 
-abbrev pub invariant-loop-k : goal.invariant-loop-k
-invariant-loop-k l =
-    (l.k ≤ l.count) × (l.rest ≡ l.mask / 2 ^ l.k) × (length l.ready ≡ 128)
-    × ((j : ℕ) → j < l.k → ready_at l.ready (port_at l.rows (base_no (get_or l.lists (64 + j) 0)) 0) ≡ bit j l.mask)
-
-abbrev pub decreases-loop-k : goal.decreases-loop-k
-decreases-loop-k l = l.count - l.k
+abbrev pub invariant-loop-b : goal.invariant-loop-b
+invariant-loop-b l = (l.rest ≡ l.fn.mask / 2 ^ l.b-index) × ((j : ℕ) → j < l.b-index → ready_at l.ready (in_no l.laid.net.now (get_or l.list j 0) 0) ≡ bit j l.fn.mask)

@@ -1,19 +1,19 @@
--- `sim::step::fresh` meets its contract: by the number of the net's verdict.
+-- `sim::step::fresh` meets its contract: by what the check of the net finds.
 -- Assumes nothing.
-use mathlib.Core.Path.{refl, sym, ap, ◌∙◌}
+use Rattle.std.proofs.Common.{refl, ap}
+use Rattle.blocks.specs.declared.State.{State}
 use Rattle.nets.proofs.Nets.{size-high}
-use Rattle.cycles.specs.declared.State.{State}
 use Rattle.sim.specs.Calls.{fresh_of}
-use Rattle.sim.proofs.Verdicts.{accepted_when, refused_when, promised}
+use Rattle.sim.proofs.Verdicts.{accepted_when, refused_when}
 use Rattle.sim.proofs.step.fresh.Goals as goal
 
-pub returns-then-number-ne0 : goal.returns-then-number-ne0
-unfolding fresh_of
-returns-then-number-ne0 c = rw (refused_when c.args.net c.plan_of-plan.result c.plan_of-plan.ensures (λ z. c.if-number-ne0.true (c.number.ensures ∙ z)))
+pub fresh_state-requires : goal.fresh_state-requires
+fresh_state-requires c = size-high c.args.net c.in-Ok.ensures.0.0.fields
 
-pub fresh_state-state-requires : goal.fresh_state-state-requires
-fresh_state-state-requires c = (refl, size-high c.args.net (promised c.args.net c.plan_of-plan.result c.plan_of-plan.ensures (sym c.number.ensures ∙ c.if-number-ne0.false)).fields)
-
-pub returns : goal.returns
+pub returns-in-Ok : goal.returns-in-Ok
 unfolding fresh_of
-returns c = rw (accepted_when c.args.net c.plan_of-plan.result c.plan_of-plan.ensures (sym c.number.ensures ∙ c.if-number-ne0.false)) (ap (λ (s : State). record { refusal = 0; state = s }) c.fresh_state-state.ensures)
+returns-in-Ok c = rw (accepted_when _ _ c.in-Ok.ensures) (ap (λ (s : State). record { refusal = 0; state = s }) c.fresh_state.ensures)
+
+pub returns-in-Err : goal.returns-in-Err
+unfolding fresh_of
+returns-in-Err c = rw (refused_when _ _ c.in-Err.ensures) refl

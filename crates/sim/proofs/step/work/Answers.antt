@@ -1,73 +1,41 @@
 -- `sim::step::work` meets its contract: the signals, what moved and the next registers, each by the net.
 -- Assumes nothing.
-use mathlib.Core.Path.{◌≡◌, refl}
-use native.Mathlib.Omega.{arith}
-use lib.ListN.{length}
-use Rattle.rows.specs.Ends.{stream_at, mask_at}
+use Rattle.std.proofs.Common.{◌≡◌, ap, ◌∙◌, ℕ, ◌+◌, List, get_or}
+use Rattle.blocks.specs.States.{reg_in}
+use Rattle.blocks.specs.declared.State.{State}
 use Rattle.nets.proofs.Nets.{channels-high}
-use Rattle.sim.specs.Laid.{Given}
-use Rattle.sim.proofs.Results.{given_of, stepped-is}
-use Rattle.sim.proofs.step.work.Lts as lts
-use Rattle.sim.proofs.step.work.Tie as tie
-use Rattle.sim.proofs.step.work.Reads as reads
+use Rattle.nets.proofs.Decided.{accepted_true}
+use Rattle.rows.specs.Ends.{read, stream_at, mask_at}
+use Rattle.sim.proofs.Answers.{passed}
+use Rattle.sim.proofs.Results.{marks_are, words_are, after_is}
 use Rattle.sim.proofs.step.work.Goals as goal
 
--- places on the way that several answers speak of
-abbrev Start : Type 0
-Start = lts.Start tie.the-claims reads.Pre reads.Post tie.handed_clauses
+-- the count is raised, and no register changes
+same_regs : (s t : State) → (t.words ≡ s.words) × (t.marks ≡ s.marks) → (b : ℕ) → reg_in t b ≡ reg_in s b
+same_regs s t e b =
+    let w = ap (λ (l : List ℕ). get_or l b 0) e.0 in
+    let m = ap (λ (l : List ℕ). get_or l b 0) e.1 in
+    λ i. record { word = w i; marks = m i }
 
--- the lengths that the arrays of a state have
-state-long : (c : Start) → (length c.args.state.words ≡ 64) × (length c.args.state.marks ≡ 64)
-state-long c =
-    let g = c.well_formed.1.1.1.1.1.0 in
-    let x : length c.args.state.words ≡ 64 = g.1.1.1.0.1.0.1 in
-    let y : length c.args.state.marks ≡ 64 = g.1.1.1.1.0.1.0.1 in
-    (x, y)
-
--- what the signals are worked out from
-abbrev laid : (c : Start)
-    → Given c.args.rows.now c.args.net.size c.args.plan.«data» c.args.plan.control c.args.sorted.counts c.args.sorted.lists c.args.state.words
-    c.args.state.marks c.args.stream.now c.args.ends.now
-laid c =
-    given_of c.args.net c.args.plan c.requires.promises c.args.rows.now c.args.values.now c.requires.flat c.args.state c.requires.state_value.0 c.args.stream.now
-    c.args.ends.now c.requires.ends_value c.args.sorted.counts c.args.sorted.lists c.requires.kinds
-
-pub signals_in-requires : goal.signals_in-requires
-signals_in-requires c =
-    let outset = c.before.before.before.before.before.before.before.before.before.before.before.before.before.before.before.before.before.before.before in
-    let start = outset in
-    record {
-      given = laid start;
-      sized = (record { valids = refl; words = refl }, refl);
-    }
-
-pub moves_of-moved-requires : goal.moves_of-moved-requires
-moves_of-moved-requires c =
-    channels-high c.args.net c.requires.promises.fields
-
-pub registers-requires : goal.registers-requires
-registers-requires c =
-    let outset = c.before.before.before.before.before.before.before.before.before.before.before.before.before.before.before.before.before.before.before.before.before.before.before.before.before.before.before.before.before.before.before.before in
-    let start = outset in
-    record {
-      rowed = (laid start).rowed;
-      kinds = (laid start).kinds;
-      shaped = (laid start).shaped;
-      all_settled = c.signals_in.ensures.settled;
-      words_len = state-long start;
-    }
-
-pub overflow_add-after : goal.overflow_add-after
-overflow_add-after c =
-    omega (arith, c.requires.state_value.1)
+pub moves_of-requires : goal.moves_of-requires
+moves_of-requires c = channels-high _ (accepted_true _ c.requires.net_value).0.fields
 
 pub returns : goal.returns
 returns c =
-    let given = c.args in
-    let signals = c.signals_in in
-    let next = c.registers in
-    let streams = stream_at given.rows.now given.stream.now given.ends.now in
-    let masks = mask_at given.rows.now given.offer given.ready in
-    stepped-is given.net given.plan c.requires.promises given.rows.now given.values.now c.requires.flat given.state c.requires.state_value.0 given.stream.now
-    given.ends.now c.requires.ends_value given.offer given.ready c.signals_in.new.valid c.signals_in.new.word c.signals_in.new.ready signals.ensures.worked c.registers.new.words c.registers.new.marks
-    next.ensures.words_len_2.0 next.ensures.words_len_2.1 (next.ensures.by_index given.values.now streams masks) next.ensures.by_index_2 _ _ c.moves_of-moved.ensures
+    let net = c.args.laid.now.net.now in
+    let acc = accepted_true net c.requires.net_value in
+    let ok = passed _ _ _ _ c.requires.given.tested in
+    let w = c.wires.ensures.worked in
+    let m = c.moves_of.ensures in
+    let next = c.registers.ensures in
+    let up = c.count_cycle.ensures in
+    let words = read c.args.streams.words in
+    let ends = read c.args.streams.ends in
+    let inside = next.by_index (stream_at net words ends) (mask_at net c.args.offer c.args.ready) in
+    let same = same_regs c.registers.new.state c.count_cycle.new.state up.same in
+    let s =
+    after_is net acc _ ok.0 _ _ ok.1 _ _ _ _ w c.count_cycle.new.state up.long.0 up.long.1 (up.count ∙ ap (λ (n : ℕ). n + 1) next.kept.same_count)
+    (λ b l. same b ∙ inside b l) (λ b l. same b ∙ next.by_index_2 b l) in
+    let d = marks_are net acc _ ok.0 _ _ ok.1 _ _ _ _ w _ _ m in
+    let x = words_are net acc _ ok.0 _ _ ok.1 _ _ _ _ w _ _ m in
+    λ i. record { refusal = 0; state = s i; delivered = d i; words = x i }

@@ -1,60 +1,36 @@
 -- `stalls::follow::chain_from` meets its contract: the walk begins with no channel met, and lists that are empty.
 -- Assumes nothing.
-use Prim.Native.Nat.{ℕ, ◌+◌, ◌≤◌}
-use mathlib.Core.List.{List}
-use mathlib.Core.Path.{refl, ap, sym, ◌∙◌}
-use mathlib.Core.Bool.{Bool, true, false}
-use native.Mathlib.Omega.{arith}
-use lib.ListN.{get_or}
-use Rattle.chains.specs.Chain.{none_met, Trail, chain_from}
-use Rattle.chains.specs.Rows.{Seen, seen, next_no, unmet, trail_no}
+use Rattle.std.proofs.Common.{refl, ap, sym, ◌∙◌, arith}
+use Rattle.ports.specs.Places.{sig_at, ready_at}
+use Rattle.chains.specs.Rows.{next_no}
 use Rattle.chains.proofs.Trails.{unmet_all, from-delivers, from-ready, from-word}
 use Rattle.stalls.specs.Calls.{chain_by}
 use Rattle.stalls.proofs.Answers.{answered}
 use Rattle.stalls.proofs.follow.chain_from.Goals as goal
+use Rattle.stalls.proofs.follow.chain_from.Goals.{then-not-seen-at, else-not-seen-at+then-not-seen-at-2}
 
--- whether a channel has V, or R, by the list of those that do
-abbrev has : List Bool → ℕ → Bool
-has signals c = get_or signals c false
+pub ask_word-ending-requires-clause-room : goal.ask_word-ending-requires-clause-room
+ask_word-ending-requires-clause-room c = omega (arith, unmet_all)
 
--- the chain of a cycle's channels from one on
-abbrev chain : Seen → List Bool → List Bool → ℕ → Trail
-chain cycle valid ready c = chain_from (next_no cycle) (has valid c) (has ready c) c
+pub ask_ready-requires-clause-room : goal.ask_ready-requires-clause-room
+ask_ready-requires-clause-room c = omega (arith, unmet_all)
 
-all_fit : 0 + unmet none_met ≤ 128
-all_fit = omega (arith, unmet_all)
-
-pub ask_word-walked-requires : goal.ask_word-walked-requires
-ask_word-walked-requires c =
-    record {
-      within = c.requires;
-      met_len = (refl, all_fit);
-    }
-
-pub returns-then-not-valid-at : goal.returns-then-not-valid-at
-returns-then-not-valid-at c =
-    let a = c.args in
-    let cycle = seen a.rows.now a.words.now a.marks.now a.valid.now a.word.now a.ready.now a.from.now a.to.now in
-    answered a.valid.now (chain cycle a.valid.now a.ready.now a.c) (trail_no cycle none_met true a.c) _ _ c.ask_word-walked.result
-    (from-word (next_no cycle) (has a.valid.now a.c) (has a.ready.now a.c) a.c c.if-not-valid-at.true) c.ask_word-walked.ensures
-
-pub returns-then-is_ready : goal.returns-then-is_ready
-returns-then-is_ready c =
-    let a = c.args in
-    let cycle = seen a.rows.now a.words.now a.marks.now a.valid.now a.word.now a.ready.now a.from.now a.to.now in
-    let delivers = from-delivers (next_no cycle) (has a.valid.now a.c) (has a.ready.now a.c) a.c c.if-not-valid-at.false c.if-is_ready.true in
-    c.no_chain.ensures ∙ ap (chain_by (λ x. get_or a.valid.now x false)) (sym delivers)
-
-pub ask_ready-walked-requires : goal.ask_ready-walked-requires
-ask_ready-walked-requires c =
-    record {
-      within = c.requires;
-      met_len = (refl, all_fit);
-    }
+pub returns-else-not-seen-at-2 : goal.returns-else-not-seen-at-2
+returns-else-not-seen-at-2 c =
+    let seen = c.args.seen in
+    let signals = sig_at seen.signals.now in
+    let delivers = from-delivers (next_no seen) _ _ c.args.c c.if-not-seen-at.false c.if-not-seen-at-2.false in
+    c.no_chain.ensures ∙ ap (chain_by (λ x. (signals x).valid)) (sym delivers)
 
 pub returns : goal.returns
 returns c =
-    let a = c.args in
-    let cycle = seen a.rows.now a.words.now a.marks.now a.valid.now a.word.now a.ready.now a.from.now a.to.now in
-    answered a.valid.now (chain cycle a.valid.now a.ready.now a.c) (trail_no cycle none_met false a.c) _ _ c.ask_ready-walked.result
-    (from-ready (next_no cycle) (has a.valid.now a.c) (has a.ready.now a.c) a.c c.if-not-valid-at.false c.if-is_ready.false) c.ask_ready-walked.ensures
+    let seen = c.args.seen in
+    let signals = seen.signals.now in
+    let v = (sig_at signals c.args.c).valid in
+    let y = ready_at seen.ready.now c.args.c in
+    elim c.if-not-seen-at.branch [
+      | then-not-seen-at w ↦
+          rw (w.walked-is, w.ending-is) (answered signals _ _ _ _ _ refl refl refl (from-word (next_no seen) v y c.args.c w.if-not-seen-at.true) w.ask_word-ending.ensures)
+      | else-not-seen-at+then-not-seen-at-2 w ↦
+          rw (w.walked-is, w.ending-is) (answered signals _ _ _ _ _ refl refl refl (from-ready (next_no seen) v y c.args.c w.if-not-seen-at.false w.if-not-seen-at-2.true) w.ask_ready.ensures)
+    ]

@@ -1,32 +1,19 @@
--- `stalls::follow::work` meets its contract: the signals are those of the cycle that a step would work, and the chain by rows is the net's.
+-- `stalls::follow::work` meets its contract: the signals are those of the cycle that a step would work, and the chain by them is the net's.
 -- Assumes nothing.
-use mathlib.Core.Path.{refl, ◌∙◌}
-use Rattle.sim.proofs.Results.{given_of}
-use Rattle.stalls.proofs.Netted.{within_of, chain-is}
+use Rattle.std.proofs.Common.{◌∙◌}
+use Rattle.rows.specs.Ends.{read}
+use Rattle.sim.proofs.Answers.{passed}
+use Rattle.stalls.proofs.Netted.{wired_of, chain-is}
 use Rattle.stalls.proofs.follow.work.Goals as goal
 
-pub signals_in-requires : goal.signals_in-requires
-signals_in-requires c =
-    let given = c.args in
-    let p = c.requires in
-    let laid =
-    given_of given.net given.plan p.promises given.rows.now given.values.now p.flat given.state p.state_value.0 given.stream.now given.ends.now
-    p.state_value.1 given.sorted.counts given.sorted.lists p.kinds in
-    record {
-      given = laid;
-      sized = (record { valids = refl; words = refl }, refl);
-    }
-
-pub chain_from-requires : goal.chain_from-requires
-chain_from-requires c =
-    let given = c.args in
-    within_of given.net given.plan c.requires.promises given.rows.now given.values.now c.requires.flat given.state c.requires.state_value.0 given.stream.now
-    given.ends.now c.signals_in.new.valid c.signals_in.new.word c.signals_in.new.ready given.channel c.requires.channel_lt_channels
+pub invariant_of-seen : goal.invariant_of-seen
+invariant_of-seen c =
+    record { wired = wired_of c.args.laid.now.net.now c.args.plan.now c.requires.planned.1 c.args.state.now c.requires.given.shaped }
 
 pub returns : goal.returns
 returns c =
-    let given = c.args in
+    let a = c.args in
+    let ok = passed _ _ _ _ c.requires.given.tested in
     c.chain_from.ensures
-    ∙ chain-is given.net given.plan c.requires.promises given.rows.now given.values.now c.requires.flat given.state c.requires.state_value.0 given.stream.now
-    given.ends.now c.signals_in.new.valid c.signals_in.new.word c.signals_in.new.ready c.requires.state_value.1 given.offer given.ready c.signals_in.ensures.worked given.channel
-    c.requires.channel_lt_channels
+    ∙ chain-is a.laid.now.net.now a.plan.now c.requires.planned.1 a.state.now c.requires.planned.0 c.requires.given.shaped ok.0 (read a.streams.words) (read a.streams.ends) ok.1 a.offer a.ready
+    c.wires.new.signals c.wires.new.ready c.wires.ensures.worked a.channel c.requires.channel_lt_channels

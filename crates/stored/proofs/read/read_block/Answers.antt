@@ -1,53 +1,54 @@
--- `stored::read::read_block` meets its contract: kind, then m, then what follows them, each at the position after the last.
+-- `stored::read::read_block` meets its contract: kind, m, value and ports, each at the position after the last.
 -- Assumes nothing.
-use Prim.Native.Nat.{◌+◌}
-use native.Mathlib.Omega.{arith}
-use mathlib.Core.Path.{◌≡◌, sym, ◌∙◌, ap}
-use lib.ListN.{drop}
-use borrow.Author.Rules.{rules}
-use Rattle.reader.specs.Bits.{bits_of}
-use Rattle.blocks.specs.Ports.{m_ok}
-use Rattle.stored.specs.Form.{between}
-use Rattle.stored.specs.Reads.{block_answer}
-use Rattle.stored.proofs.Codecs.{true_between}
-use Rattle.stored.proofs.Places.{stopped_with, met, tested_of_refused, block_no_kind, block_no_m, block_valued}
+use Rattle.std.proofs.Common.{◌≡◌, ℕ, ◌≤◌, arith, rules}
+use Rattle.std.proofs.lemmas.Result.{err_from_is_err_and}
+use Rattle.stored.specs.Form.{port_count}
+use Rattle.stored.proofs.Codecs.{port_count_le}
+use Rattle.stored.proofs.Places.{no_kind, no_m, no_value, no_ports, block_took, eight}
 use Rattle.stored.proofs.read.read_block.Goals as goal
 
-pub read_m-requires : goal.read_m-requires
-read_m-requires c =
-    let a = c.args in
-    let k = met a.form.now a.at 4 (between 0 10) 4 c.in-Good.kind (omega arith) (sym c.read_between.ensures ∙ c.in-Good.is) in
-    (search rules, (true_between 0 10 c.in-Good.kind k.passed).1)
+few : (k m n : ℕ) → n ≡ port_count k m → n ≤ 10
+few k m n e = omega (arith, e, port_count_le k m)
 
-pub read_valued-requires : goal.read_valued-requires
-read_valued-requires c =
-    let a = c.args in
-    let k = met a.form.now a.at 4 (between 0 10) 4 c.in-Good.kind (omega arith) (sym c.read_between.ensures ∙ c.in-Good.is) in
-    let m = met a.form.now (a.at + 4) 4 (m_ok c.in-Good.kind) 5 c.in-Good-read_m.m (omega arith) (sym c.read_m.ensures ∙ c.in-Good-read_m.is) in
-    (omega (arith, m.inside), search rules, search rules, search rules, (true_between 0 10 c.in-Good.kind k.passed).1, m.small)
+pub returns-in_err-kind-clause-taken : goal.returns-in_err-kind-clause-taken
+returns-in_err-kind-clause-taken c =
+    let p = err_from_is_err_and c.from_residual.result c.from_residual.ensures.1 in
+    rw (p.1, p.2) (no_kind c.args.form.now _ _ _ c.in_err-kind.ensures.taken)
 
-pub returns-in-Refused : goal.returns-in-Refused
-returns-in-Refused c =
-    let a = c.args in
-    ap (λ b. stopped_with c.in-Refused.e b) c.zero_block.ensures
-    ∙ block_no_kind a.form.now a.channels (drop a.at (bits_of a.form.now)) c.in-Refused.e
-    (tested_of_refused _ c.in-Refused.e (sym c.read_between.ensures ∙ c.in-Refused.is))
+pub returns-in_err-m-clause-taken : goal.returns-in_err-m-clause-taken
+returns-in_err-m-clause-taken c =
+    let r = c.from_residual-in_err-m in
+    let p = err_from_is_err_and r.result r.ensures.1 in
+    rw (p.1, p.2) (no_m c.args.form.now _ _ _ _ c.in_ok-kind.ensures.taken _ c.in_err-m.ensures)
 
-pub returns-in-Refused-read_m : goal.returns-in-Refused-read_m
-returns-in-Refused-read_m c =
-    let a = c.args in
-    let k = met a.form.now a.at 4 (between 0 10) 4 c.in-Good.kind (omega arith) (sym c.read_between.ensures ∙ c.in-Good.is) in
-    ap (λ b. stopped_with c.in-Refused-read_m.e b) c.zero_block-in-Refused-read_m.ensures
-    ∙ block_no_m a.form.now a.channels (drop a.at (bits_of a.form.now)) c.in-Good.kind (drop (a.at + 4) (bits_of a.form.now)) c.in-Refused-read_m.e k.taken
-    (tested_of_refused _ c.in-Refused-read_m.e (sym c.read_m.ensures ∙ c.in-Refused-read_m.is))
+pub returns-in_err-value-clause-taken : goal.returns-in_err-value-clause-taken
+returns-in_err-value-clause-taken c =
+    let r = c.from_residual-in_err-value in
+    let p = err_from_is_err_and r.result r.ensures.1 in
+    rw (p.1, p.2) (no_value c.args.form.now _ _ _ _ c.in_ok-kind.ensures.taken _ _ (eight c.args.at c.in_ok-m.ensures) _ c.in_err-value.ensures.taken)
 
-pub returns-in-Good-read_m : goal.returns-in-Good-read_m
-returns-in-Good-read_m c =
-    let a = c.args in
-    let k = met a.form.now a.at 4 (between 0 10) 4 c.in-Good.kind (omega arith) (sym c.read_between.ensures ∙ c.in-Good.is) in
-    let m = met a.form.now (a.at + 4) 4 (m_ok c.in-Good.kind) 5 c.in-Good-read_m.m (omega arith) (sym c.read_m.ensures ∙ c.in-Good-read_m.is) in
-    let e : a.at + 4 + 4 ≡ a.at + 8 = omega arith in
-    c.read_valued.ensures
-    ∙ ap (block_answer a.form.now)
-    (block_valued a.form.now a.channels (drop a.at (bits_of a.form.now)) c.in-Good.kind c.in-Good-read_m.m (drop (a.at + 4) (bits_of a.form.now))
-    (drop (a.at + 8) (bits_of a.form.now)) k.taken (rw e at m.taken))
+pub read_ports-requires : goal.read_ports-requires
+read_ports-requires c =
+    let v = c.in_ok-value.ensures in
+    (v.taken.inside, omega (arith, v.near), search rules, search rules, few _ _ _ c.port_count-count.ensures)
+
+pub returns-in_err-ports-clause-taken : goal.returns-in_err-ports-clause-taken
+returns-in_err-ports-clause-taken c =
+    let r = c.from_residual-in_err-ports in
+    let p = err_from_is_err_and r.result r.ensures.1 in
+    rw (p.1, p.2)
+    (no_ports c.args.form.now _ _ _ _ c.in_ok-kind.ensures.taken _ _ (eight c.args.at c.in_ok-m.ensures) _ _ c.in_ok-value.ensures.taken _ _ c.port_count-count.ensures c.in_err-ports.ensures)
+
+pub overflow_mul-result : goal.overflow_mul-result
+overflow_mul-result c = omega (arith, few _ _ _ c.port_count-count.ensures)
+
+pub overflow_add-result : goal.overflow_add-result
+overflow_add-result c = omega (arith, few _ _ _ c.port_count-count.ensures, c.in_ok-value.ensures.near)
+
+pub returns-clause-taken : goal.returns-clause-taken
+returns-clause-taken c =
+    block_took c.args.form.now _ _ _ _ c.in_ok-kind.ensures.taken _ _ (eight c.args.at c.in_ok-m.ensures) _ _ c.in_ok-value.ensures.taken _ _ _
+    c.port_count-count.ensures c.in_ok-ports.ensures
+
+pub returns-clause-near : goal.returns-clause-near
+returns-clause-near c = omega (arith, few _ _ _ c.port_count-count.ensures, c.in_ok-value.ensures.near)

@@ -1,21 +1,15 @@
 -- `stored::read::read_blocks` meets its contract. The loop's invariant: the array holds the blocks taken so far, padded with zero blocks, and the taker of
--- all blocks gives them in front of what it gives from the position on, which is at most 110 bits a block. The measure is what is left of the count.
+-- all blocks gives them in front of what it gives from the position on, which is at most 110 bits a block.
 -- Assumes nothing.
-use Prim.Native.Nat.{◌+◌, ◌-◌, ◌*◌, ◌≤◌}
-use mathlib.Core.Path.{◌≡◌}
-use mathlib.Core.List.{List}
-use lib.ListN.{length, drop}
+use Rattle.std.proofs.Common.{◌≡◌, ◌+◌, ◌-◌, ◌*◌, ◌≤◌, List, length, drop}
 use Rattle.reader.specs.Bits.{bits_of}
-use Rattle.nets.specs.declared.Block.{Block}
+use Rattle.blocks.specs.declared.Block.{Block}
 use Rattle.stored.specs.Form.{take_many, take_block, padded, zero_block}
 use Rattle.stored.proofs.Many.{prepend}
 use Rattle.stored.proofs.read.read_blocks.Given as goal
 
 abbrev pub invariant-loop-i : goal.invariant-loop-i
 invariant-loop-i l =
-    (l.n ≡ l.count) × (l.i ≤ l.n) × (l.at ≤ 32 + 110 * l.i) × (l.at ≤ 8 * length l.form)
+    (l.at ≤ 32 + 110 * l.i) × (l.at ≤ 8 * length l.form)
     × ((xs : List Block) × (length xs ≡ l.i) × (l.blocks ≡ padded zero_block 64 xs)
-    × (take_many (take_block l.channels) l.n (drop 32 (bits_of l.form)) ≡ prepend xs (take_many (take_block l.channels) (l.n - l.i) (drop l.at (bits_of l.form)))))
-
-abbrev pub decreases-loop-i : goal.decreases-loop-i
-decreases-loop-i l = l.n - l.i
+    × (take_many (take_block l.channels) l.count (drop 32 (bits_of l.form)) ≡ prepend xs (take_many (take_block l.channels) (l.count - l.i) (drop l.at (bits_of l.form)))))

@@ -1,10 +1,7 @@
 -- `stored::read::read_ports` meets its contract. The loop's invariant: the array holds the ports taken so far, padded with zeros, and the taker of all
--- ports gives them in front of what it gives from the position on. The measure is what is left of the count.
+-- ports gives them in front of what it gives from the position on.
 -- Assumes nothing.
-use Prim.Native.Nat.{ℕ, ◌+◌, ◌-◌, ◌*◌, ◌≤◌}
-use mathlib.Core.Path.{◌≡◌}
-use mathlib.Core.List.{List}
-use lib.ListN.{length, drop}
+use Rattle.std.proofs.Common.{◌≡◌, ℕ, ◌+◌, ◌-◌, ◌*◌, ◌≤◌, List, length, drop}
 use Rattle.reader.specs.Bits.{bits_of}
 use Rattle.stored.specs.Form.{take_many, take_port, padded}
 use Rattle.stored.proofs.Many.{prepend}
@@ -12,9 +9,6 @@ use Rattle.stored.proofs.read.read_ports.Given as goal
 
 abbrev pub invariant-loop-i : goal.invariant-loop-i
 invariant-loop-i l =
-    (l.i ≤ l.count) × (l.at ≡ l.start + 7 * l.i) × (l.at ≤ 8 * length l.form)
+    (l.start + 7 * l.i ≤ 8 * length l.form)
     × ((xs : List ℕ) × (length xs ≡ l.i) × (l.ports ≡ padded 0 10 xs)
-    × (take_many (take_port l.channels) l.count (drop l.start (bits_of l.form)) ≡ prepend xs (take_many (take_port l.channels) (l.count - l.i) (drop l.at (bits_of l.form)))))
-
-abbrev pub decreases-loop-i : goal.decreases-loop-i
-decreases-loop-i l = l.count - l.i
+    × (take_many (take_port l.channels) l.count (drop l.start (bits_of l.form)) ≡ prepend xs (take_many (take_port l.channels) (l.count - l.i) (drop (l.start + 7 * l.i) (bits_of l.form)))))

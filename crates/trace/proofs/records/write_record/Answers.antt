@@ -1,30 +1,12 @@
--- `trace::records::write_record` meets its contract: the eight stores are the record's bytes.
+-- `trace::records::write_record` meets its contract: the eight bytes are the record's.
 -- Assumes nothing.
-use native.Mathlib.Omega.{arith}
-use lib.ListN.{length-set}
-use Rattle.trace.proofs.TraceBytes.{bytes_stored}
+use mathlib.Core.Path.{ap, ◌∙◌}
+use mathlib.Core.List.{◌++◌}
+use lib.ListN.{drop}
+use Rattle.trace.proofs.TraceBytes.{eight_first}
 use Rattle.trace.proofs.records.write_record.Goals as goal
 
-pub bounds-out-1 : goal.bounds-out-1
-bounds-out-1 c = simp length-set (omega arith)
-
-pub bounds-out-2 : goal.bounds-out-2
-bounds-out-2 c = simp length-set (omega arith)
-
-pub bounds-out-3 : goal.bounds-out-3
-bounds-out-3 c = simp length-set (omega arith)
-
-pub bounds-out-4 : goal.bounds-out-4
-bounds-out-4 c = simp length-set (omega arith)
-
-pub bounds-out-5 : goal.bounds-out-5
-bounds-out-5 c = simp length-set (omega arith)
-
-pub bounds-out-6 : goal.bounds-out-6
-bounds-out-6 c = simp length-set (omega arith)
-
-pub bounds-out-7 : goal.bounds-out-7
-bounds-out-7 c = simp length-set (omega arith)
-
 pub returns : goal.returns
-returns c = bytes_stored c.args.r c.args.out.now c.ranges.r.fits c.requires
+returns c =
+    let bytes = c.copy_from_slice.ensures.after ∙ c.to_be_bytes.ensures ∙ eight_first c.args.r in
+    ap (λ l. l ++ drop 8 c.args.out.now) bytes

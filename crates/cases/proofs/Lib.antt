@@ -1,0 +1,2 @@
+-- What the proof of `read_case` uses.
+pub mod Splits
