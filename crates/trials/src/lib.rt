@@ -1,7 +1,8 @@
 // What the programs that show trials share: a net with its streams, nets and states with a part changed, and bytes as they are printed.
 #![tactic(auto)]
 
-ghost use Rattle.std.specs.Prelude.{◌<◌};
+ghost use Rattle.std.specs.Prelude.{◌≡◌, ◌<◌, [], ◌∷◌, take, set};
+ghost use Rattle.blocks.specs.Numbers.{kind_number};
 
 use blocks::{Block, Kind, Net, State};
 use std::io::Print;
@@ -15,7 +16,10 @@ pub struct Streams<'a> {
 
 impl<'a> Streams<'a> {
     // The streams, of which at most so many ends are lent.
-    pub fn lent(self, most: usize) -> Streams<'a> {
+    pub fn lent(self, most: usize) -> Streams<'a>
+        ensures words { result.words ≡ self.entry.words }
+        ensures ends { result.ends.now ≡ take most self.entry.ends.now }
+    {
         let n = most.min(self.ends.len());
         Streams {
             words: self.words,
@@ -35,7 +39,11 @@ pub const FORK_ENDS: [u32; 1] = [4];
 
 // A block of a kind with ports p and q.
 // stays: `placed` has its buffer with the promise of placements, which a trial needs not.
-pub fn block(kind: Kind, p: u8, q: u8) -> Block {
+pub fn block(kind: Kind, p: u8, q: u8) -> Block
+    ensures kind { result.kind ≡ kind_number kind }
+    ensures ports { result.ports ≡ p ∷ q ∷ 0 ∷ 0 ∷ 0 ∷ 0 ∷ 0 ∷ 0 ∷ 0 ∷ 0 ∷ [] }
+    ensures rest { (result.m ≡ 0) × (result.value ≡ 0) }
+{
     Block {
         kind: kind as u8,
         m: 0,
@@ -45,7 +53,9 @@ pub fn block(kind: Kind, p: u8, q: u8) -> Block {
 }
 
 // 32 sources, each joined to a sink.
-pub fn pairs() -> Net {
+pub fn pairs() -> Net
+    ensures { (result.size ≡ 64) × (result.channels ≡ 32) }
+{
     let mut blocks = [block(Kind::Source, 0, 0); 64];
     for channel in 0..32u8 {
         let b = 2 * channel as usize;
@@ -62,6 +72,8 @@ pub fn pairs() -> Net {
 // The state with another word register of a block.
 pub fn with_word(state: State, block: usize, word: u32) -> State
     requires { block < 64 }
+    ensures word { result.words ≡ set state.words block word }
+    ensures rest { (result.marks ≡ state.marks) × (result.count ≡ state.count) }
 {
     let mut words = state.words;
     words[block] = word;
@@ -71,6 +83,8 @@ pub fn with_word(state: State, block: usize, word: u32) -> State
 // The state with other marks of a block.
 pub fn with_marks(state: State, block: usize, mark: u8) -> State
     requires { block < 64 }
+    ensures marks { result.marks ≡ set state.marks block mark }
+    ensures rest { (result.words ≡ state.words) × (result.count ≡ state.count) }
 {
     let mut marks = state.marks;
     marks[block] = mark;
