@@ -6,7 +6,7 @@
 //
 // Threads. The calls keep no state and allocate nothing: several threads may call them at once on different buffers.
 //
-// Memory. A call uses less than 16 KiB of stack, and no heap; of the C library it needs memcpy and memset.
+// Memory. A call uses less than 14 KiB of stack, and no heap; of the C library it needs memcpy and memset.
 //
 // In this file: the limits; refusals, and whemdrosk_reason with a sentence for each; kinds of blocks and their ports; the two calls; the
 // answer of a run, and what to do after ending 1; the records of a trace; whemdrosk_form_block, which writes a stored net block by block.
@@ -58,7 +58,7 @@ extern "C" {
 #define WHEMDROSK_TRACE_BYTES(cycles, channels) ((size_t)(cycles) * (size_t)(channels) * WHEMDROSK_RECORD_BYTES)
 
 // The most stack that a call uses on x86-64, its return address included; what memcpy and memset use for themselves comes on top.
-#define WHEMDROSK_STACK_BYTES 15760
+#define WHEMDROSK_STACK_BYTES 13688
 
 // Why a call refuses. Checks are made in this order, and the first that fails is answered; 12, 13 and 17 are never answered here.
 enum whemdrosk_refusal {

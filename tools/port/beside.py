@@ -35,17 +35,35 @@ def public(root):
 
 
 def statements(root):
-    """What stands in proofs/ beside the answers, by crate and name, without the proofs."""
-    out = collections.defaultdict(list)
+    """What stands in proofs/ beside the answers, by crate and name: without the proofs, and whole where it is a definition.
+    Answers and invariants lie in the folders of their functions; a file of that name right in proofs/ has statements."""
+    out, whole, defined = collections.defaultdict(list), collections.defaultdict(list), set()
     for path in sorted(pathlib.Path(root).glob("crates/*/proofs/**/*.antt")):
-        if path.name in ("Answers.antt", "Invariants.antt", "Lib.antt"):
+        crate, _, *inside = path.relative_to(pathlib.Path(root, "crates")).parts
+        if path.name == "Lib.antt" or (len(inside) > 1 and path.name in ("Answers.antt", "Invariants.antt")):
             continue
         for name, texts in contracts.definitions(path.read_text()).items():
             for text in texts:
                 own = re.escape(name)
-                said = re.split(rf"(?<=\s)(?:unfolding\b|{own}(?=[\s{{]))", text.split(name, 1)[1], 1)[0]
-                out[path.parts[len(pathlib.Path(root).parts) + 1], name].append(contracts.squeeze(said))
-    return out
+                head, rest = text.split(name, 1)
+                said = re.split(rf"(?<=\s)(?:unfolding\b|{own}(?=[\s{{]))", rest, 1)[0]
+                out[crate, name].append(contracts.squeeze(said))
+                whole[crate, name].append(rest)
+                if re.search(r"\b(abbrev|unfoldable|opaque)\b", head):
+                    defined.add((crate, name))
+    return out, whole, defined
+
+
+def alike(old, new):
+    """Whether two lists of texts are the same up to names: each word of the one stands for one word of the other, at each place."""
+    if len(old) != len(new):
+        return False
+    there, back = {}, {}
+    for a, b in zip(sorted(old), sorted(new)):
+        a, b = (re.findall(r"[\w'-]+|\S", text) for text in (a, b))
+        if len(a) != len(b) or any(there.setdefault(x, y) != y or back.setdefault(y, x) != x for x, y in zip(a, b)):
+            return False
+    return True
 
 
 def by_name(old, new):
@@ -69,9 +87,19 @@ table("Public functions", [(where(a) if a == b else where(a) + ", now " + where(
       for a, b in sorted(done.items()) if promise(old_functions[a]) != promise(new_functions[b])])
 table("Public functions that went", [(where(a), cell(promise(f)), "") for a, f in sorted(old_functions.items()) if a not in done])
 table("New public functions", [(where(b), "", cell(promise(new_functions[b]))) for b in sorted(left)])
-for title, a, b in (("Facts of types, and constants", old_ghosts, new_ghosts), ("Definitions", old_specs, new_specs), ("Statements of proofs/", statements(sys.argv[2]), statements(sys.argv[3]))):
+(old_statements, old_whole, old_defined), (new_statements, new_whole, new_defined) = statements(sys.argv[2]), statements(sys.argv[3])
+
+
+def same_statement(k, q):
+    """Two lemmas of one name may have nothing to do with each other: of lemmas the statements are compared, of definitions the whole texts."""
+    if k in old_defined or q in new_defined:
+        return alike(old_whole[k], new_whole[q])
+    return alike(old_statements[k], new_statements[q])
+
+
+for title, a, b in (("Facts of types, and constants", old_ghosts, new_ghosts), ("Definitions", old_specs, new_specs), ("Statements of proofs/", old_statements, new_statements)):
     gone = {k: v for k, v in a.items() if k not in b}
-    moved = {k: q for k in gone for q in b if q[1:] == k[1:] and q not in a}
+    moved = {k: q for k in gone for q in b if q[1:] == k[1:] and q not in a and (a is not old_statements or same_statement(k, q))}
     table(title + ", changed", [(where(k), cell(" ".join(v)), cell(" ".join(b[k]))) for k, v in sorted(a.items()) if k in b and sorted(v) != sorted(b[k])])
     table(title + ", in another crate", [(where(k) + ", now " + where(q), cell(" ".join(a[k])), cell(" ".join(b[q])) if sorted(a[k]) != sorted(b[q]) else "the same") for k, q in sorted(moved.items())])
     table(title + ", gone", [(where(k), cell(" ".join(v)), "") for k, v in sorted(gone.items()) if k not in moved])

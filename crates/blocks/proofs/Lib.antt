@@ -1,6 +1,7 @@
 -- Laws of one block.
 pub mod Folds
 pub mod Bits
+pub mod Registers
 pub mod Options
 pub mod Local
 pub mod Turns

@@ -36,7 +36,7 @@ pub unmet_all : unmet none_met ≡ 128
 unfolding unmet
 unmet_all = refl
 
--- ## A channel that is asked next is one of the rows'
+-- ## A channel that is asked next is one of the net's
 
 -- what an answer leads to: the channel that is asked next has the property of the question
 abbrev pub LeadsBy : (Bool → ℕ → Type 0) → Next → Type 0

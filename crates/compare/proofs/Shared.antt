@@ -3,10 +3,12 @@
 use mathlib.Core.Path.{◌≡◌, refl, ap, ◌∙◌}
 use mathlib.Core.List.{List, [], ◌∷◌}
 use mathlib.Core.Bool.{Bool, true, false, cond}
-use Prim.Native.Nat.{ℕ, suc, ◌≤◌, zero-le}
+use Prim.Native.Nat.{ℕ, suc, ◌<◌, ◌≤◌, zero-le}
 use native.Mathlib.Omega.{arith}
 use lib.Dec.{eqb}
-use lib.ListN.{length}
+use lib.ListN.{length, get_or, drop}
+use lib.Seq.{drop-cons}
+use borrow.Author.Tests.{eq-eqb, ne_eqb}
 use Rattle.std.specs.List.{zip, take_while}
 use Rattle.std.proofs.lemmas.List.Sums.{take_while-cons}
 use Rattle.compare.specs.Compare.{shared, more}
@@ -23,6 +25,20 @@ shared_pairs [] ys = refl
 shared_pairs (x ∷ xs) [] = refl
 shared_pairs (x ∷ xs) (y ∷ ys) =
     ap length (take_while-cons (λ p. eqb p.0 p.1) (x, y) (zip xs ys)) ∙ one_pair (eqb x y) (x, y) _ _ (shared_pairs xs ys)
+
+-- ## Past the first i of each list
+
+module _ (xs ys : List ℕ) (i : ℕ) where
+  -- words that differ: nothing more is shared
+  pub parted : i < length xs → i < length ys → (get_or xs i 0 ≡ get_or ys i 0 → ⊥) → shared (drop i xs) (drop i ys) ≡ 0
+  unfolding shared
+  parted hx hy ne = rw (drop-cons xs i 0 hx, drop-cons ys i 0 hy, ne_eqb (get_or xs i 0) (get_or ys i 0) ne)
+
+  -- words that agree: one more
+  pub agreed : i < length xs → i < length ys → get_or xs i 0 ≡ get_or ys i 0
+      → shared (drop i xs) (drop i ys) ≡ suc (shared (drop (suc i) xs) (drop (suc i) ys))
+  unfolding shared
+  agreed hx hy e = rw (drop-cons xs i 0 hx, drop-cons ys i 0 hy, eq-eqb (get_or xs i 0) (get_or ys i 0) e)
 
 -- ## No more is shared than either list has
 

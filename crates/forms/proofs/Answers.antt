@@ -3,18 +3,24 @@
 -- Assumes nothing.
 use Prim.Native.Nat.{ℕ, zero, suc, ◌≤◌}
 use native.Mathlib.Omega.{arith}
-use mathlib.Core.Path.{◌≡◌, refl, ap, sym}
+use mathlib.Core.Path.{◌≡◌, refl, ap, sym, ◌∙◌, subst}
 use mathlib.Core.List.{List, ◌++◌}
 use mathlib.Core.Bool.{Bool, true, false, cond}
 use lib.ListN.{length, drop}
 use lib.Dec.{leb, eqb}
+use borrow.Author.Tests.{eq-eqb, ne_eqb}
 use Rattle.reader.specs.Bits.{bits_of}
 use Rattle.nets.specs.Verdict.{VerdictIs, number_of}
+use Rattle.nets.specs.Promises.{earned}
+use Rattle.nets.specs.declared.Fault.{Fault}
+use Rattle.nets.specs.declared.Fault.TheVariants as fault
 use Rattle.blocks.specs.declared.Net.{Net}
 use Rattle.nets.specs.Verdict.{Verdict}
 use Rattle.nets.specs.Verdict.{Accepted, Field, Connection, Ends, DataLoop, ControlLoop}
-use Rattle.stored.specs.Form.{zero_net, Taken, got, refused, and_then, check, take_field, take_tested, take_many, take_value, take_rest, take_valued, take_block, take_blocks, take_counts, take_net, blank_end, loaded, denied, finish, parse, form_of}
-use Rattle.forms.specs.Calls.{Loaded, Wrote}
+use Rattle.stored.specs.Form.{zero_net, Taken, got, refused, and_then, check, take_field, take_tested, take_many, take_value, take_rest, take_valued, take_block, take_blocks, take_counts, take_net, blank_end, Outcome, loaded, denied, finish, parse, form_of}
+use Rattle.stored.specs.Reads.{net_answer}
+use Rattle.stored.specs.declared.Loading.{Loading}
+use Rattle.forms.specs.Calls.{answer, LoadedFrom, Loaded, Wrote}
 use Rattle.forms.specs.Over.{answered, written_of, buffer_of}
 use Rattle.std.proofs.Common.{Result, Ok, Err}
 use Rattle.blocks.specs.Refusals.{refusal_number}
@@ -102,6 +108,14 @@ only_accepted Ends h = absurd (omega arith)
 only_accepted DataLoop h = absurd (omega arith)
 only_accepted ControlLoop h = absurd (omega arith)
 
+-- no fault has the number 0
+pub fault_numbered : (f : Fault) → number_of (earned f) ≡ 0 → ⊥
+fault_numbered fault.Field h = absurd (omega arith)
+fault_numbered fault.Connection h = absurd (omega arith)
+fault_numbered fault.Ends h = absurd (omega arith)
+fault_numbered fault.DataLoop h = absurd (omega arith)
+fault_numbered fault.ControlLoop h = absurd (omega arith)
+
 -- ## What a load answers
 
 either_net : (t : Bool) → cond t zero_net zero_net ≡ zero_net
@@ -113,11 +127,45 @@ module _ (f : List ℕ) where
   pub load_denied : (e : Refusal) → parse f ≡ denied (refusal_number e) → Loaded f (answered (Err e))
   load_denied e h = rw h (ap (λ (n : Net). record { refusal = refusal_number e; net = n }) (sym (either_net (eqb (refusal_number e) 0))))
 
+-- what reading a form found, as an answer: the verdict on its net decides
+module _ (f : List ℕ) (x : Loading) where
+  judged_from : (o : Outcome) → parse f ≡ o → x ≡ net_answer o → x.refusal ≡ 0
+      → (v : Verdict) → VerdictIs x.net v → (l : Loading) → l ≡ answer (number_of v) x.net → LoadedFrom o l
+  unfolding net_answer
+  judged_from (denied e) s h z v r l k =
+      let d = denied_numbered f e s in
+      let q : x.refusal ≡ e = ap (λ (l : Loading). l.refusal) h in
+      absurd (omega arith)
+  judged_from (loaded n) s h z v r l k =
+      let e : x.net ≡ n = ap (λ (l : Loading). l.net) h in
+      (v, subst (λ (m : Net). VerdictIs m v) e r, k ∙ ap (answer (number_of v)) e)
+
+  -- a form that was read: the verdict decides
+  pub load_judged : x ≡ net_answer (parse f) → x.refusal ≡ 0 → (v : Verdict) → VerdictIs x.net v → (l : Loading) → l ≡ answer (number_of v) x.net → Loaded f l
+  load_judged h z v r l k = judged_from (parse f) refl h z v r l k
+
+-- the two answers that the verdict decides between
+pub judged_denied : (e v : ℕ) (n : Net) → e ≡ v → (e ≡ 0 → ⊥) → net_answer (denied e) ≡ answer v n
+unfolding net_answer
+judged_denied e v n h q =
+    ap (λ (k : ℕ). record { refusal = k; net = zero_net }) h
+    ∙ ap (λ (t : Bool). record { refusal = v; net = cond t n zero_net }) (sym (ne_eqb v 0 (λ z. q (h ∙ z))))
+
+pub judged_good : (x : Loading) (v : ℕ) → x.refusal ≡ 0 → v ≡ 0 → x ≡ answer v x.net
+judged_good x v h k =
+    ap (λ (e : ℕ). record { refusal = e; net = x.net }) (h ∙ sym k)
+    ∙ ap (λ (t : Bool). record { refusal = v; net = cond t x.net zero_net }) (sym (eq-eqb v 0 k))
+
 -- ## Writing a net
 
 -- an accepted net has at most 64 blocks
 pub accepted_small : (n : Net) → VerdictIs n Accepted → n.size ≤ 64
 accepted_small n r = (sizes_ok_lem n r.0.fields).1
+
+module _ (n : Net) (buf : List ℕ) (v : Verdict) (right : VerdictIs n v) where
+  -- the net is not accepted: nothing is put
+  pub wrote_unfit : (number_of v ≡ 0 → ⊥) → Wrote n buf (Err refusal.Net) buf
+  wrote_unfit h = record { verdict = v; right = right; refusal = rw (ne_eqb (number_of v) 0 h) refl; count = refl; held = refl }
 
 module _ (n : Net) (buf : List ℕ) where
   -- the net is accepted: its form is put where it fits

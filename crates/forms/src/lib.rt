@@ -2,8 +2,9 @@
 #![tactic(auto)]
 
 ghost use Rattle.std.specs.Prelude.{◌≡◌};
-ghost use Rattle.forms.specs.Calls.{Loaded, Wrote};
+ghost use Rattle.forms.specs.Calls.{Loaded, LoadedFrom, Wrote};
 ghost use Rattle.forms.specs.Over.{answered};
+ghost use Rattle.stored.specs.Form.{loaded};
 
 mod put;
 
@@ -15,7 +16,24 @@ use stored::{Loading, read};
 pub fn load(form: &[u8]) -> Loading
     ensures { Loaded form.now result }
 {
-    loading(loaded(form))
+    let found = read::read_net(form);
+    match &found {
+        Ok(net) => judged(net),
+        Err(refusal) => read::refused_load(refusal.number()),
+    }
+}
+
+// The answer for a net that was read: refusal 0 with it, or the number of its fault with a zero net.
+fn judged(net: &Net) -> Loading
+    ensures { LoadedFrom (loaded net.now) result }
+{
+    match nets::check(net) {
+        Ok(_) => Loading {
+            refusal: 0,
+            net: *net,
+        },
+        Err(fault) => read::refused_load(fault.number()),
+    }
 }
 
 // The answer of refusal 0 with a net, or of a refusal with a zero net.
@@ -29,21 +47,12 @@ pub fn loading(found: Result<Net, Refusal>) -> Loading
     }
 }
 
-// The net that a form holds, or why it is refused, with no net beside a refusal.
-fn loaded(form: &[u8]) -> Result<Net, Refusal>
-    ensures { Loaded form.now (answered result) }
-{
-    let net = read::read_net(form)?;
-    nets::plan_of(net)?;
-    Ok(net)
-}
-
 // Writes a net's form at the buffer's beginning and changes no later byte: the form's byte count. Refused, 12 for a net that is not accepted or 17 for a shorter buffer, it
 // changes none.
 pub fn write(net: Net, buf: &mut [u8]) -> Result<usize, Refusal>
     ensures { Wrote net buf.old result buf.new }
 {
-    match nets::plan_of(net) {
+    match nets::check(&net) {
         Ok(_) => put::put_net(net, buf),
         Err(_) => Err(Refusal::Net),
     }

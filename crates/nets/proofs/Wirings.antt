@@ -97,7 +97,7 @@ module _ (net : Net) (ok : fields_ok net ≡ true) (side : Bool) where
       let p : HasPort net side d.0 (q.0 / 10) = port_of_lem net side d.0 q.0 q.1 q.2 in
       let low : d.0 < net.channels =
       subst (λ (x : ℕ). x < net.channels) {x = get_or (block_at net (q.0 / 10)).ports p.port 0} p.names (port-small (block_at net (q.0 / 10)) p.port net.channels side (block_in net ok (q.0 / 10) p.in_net) p.on_side_lem) in
-      unjoined net side d.0 low (λ e. omega (arith, more))
+      (d.0, low, λ e. omega (arith, more))
 
   pub filled_next : (i : ℕ) (answer : Bool) (table : List ℕ) → answer ≡ true → Filled net side i answer table → Entries net side table ((i + 1) * 10)
   filled_next i answer table t r = subst (λ (q : ℕ). Entries net side table q) (omega arith) (r.whole t)
@@ -123,4 +123,4 @@ module _ (net : Net) (ok : fields_ok net ≡ true) (side : Bool) where
         let z : count_below (names_at net side x.0) (net.size * 10) ≡ 0 =
         vacant_entry net side x.0 (net.size * 10) (get_or table x.0 0) (omega (arith, size-high net ok))
         (eqb-true (get_or table x.0 0) 255 (not-false (eqb (get_or table x.0 0) 255) x.2)) (es x.0 (omega (arith, x.1, channels-high net ok))) in
-        unjoined net side x.0 x.1 (λ e. omega (arith, z))
+        (x.0, x.1, λ e. omega (arith, z))

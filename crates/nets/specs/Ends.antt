@@ -3,7 +3,7 @@
 use Rattle.std.specs.Prelude.{◌≡◌, Bool, true, false, cond, not, List, Option, Some, None, ℕ, ◌+◌, ◌*◌, ◌/◌, ◌≤◌, ◌<◌, eqb, get_or}
 use Rattle.blocks.specs.Folds.{count_below}
 use Rattle.nets.specs.Block.{ins, outs}
-use Rattle.nets.specs.Net.{block_at, names_at, port_count, connected}
+use Rattle.nets.specs.Net.{block_at, names_at, port_count}
 use Rattle.nets.specs.Promises.{Table}
 use Rattle.blocks.specs.declared.Block.{Block}
 use Rattle.blocks.specs.declared.Net.{Net}
@@ -46,7 +46,11 @@ held_at table c = not (eqb (get_or table c 0) 255)
 abbrev pub Once : Net → Bool → Type 0
 Once net side = (c : ℕ) → c < net.channels → port_count net side c ≡ 1
 
+-- a channel has two ports on this side, or none
+abbrev pub Unjoined : Net → Bool → Type 0
+Unjoined net side = (c : ℕ) × (c < net.channels) × (port_count net side c ≡ 1 → ⊥)
+
 -- the answer for all blocks: a table with the one block of each channel, or a channel with two ports or none
 abbrev pub EndsAre : Net → Bool → Option (List ℕ) → Type 0
 EndsAre net side (Some table) = Table net side table × Once net side
-EndsAre net side None = connected net ≡ false
+EndsAre net side None = Unjoined net side

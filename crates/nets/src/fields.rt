@@ -9,11 +9,11 @@ ghost use Rattle.nets.specs.Net.{block_zero, entry_ok, sizes_ok, fields_ok, kind
 use crate::{Block, Net};
 use blocks::{Kind, Ports, kinds};
 
-// A used port names a channel below the count; an unused one is 0.
+// A used port names a channel below the count; an unused one is 0, the only number below 1.
 fn port_ok(port: u8, used: bool, channels: u8) -> bool
     ensures { result ≡ port_ok port used channels }
 {
-    if used { port < channels } else { port == 0 }
+    port < if used { channels } else { 1 }
 }
 
 // The first n ports name channels, and the rest are 0.

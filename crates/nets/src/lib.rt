@@ -13,14 +13,14 @@ use blocks::Refusal;
 pub use blocks::{Block, Net};
 pub use fields::{counts, kind_count};
 
-// What the check of a net finds wrong, with document 01's numbers, in its order of checking.
+// What the check of a net finds wrong, in document 01's order of checking. Its numbers are those of the refusals.
 #[derive(Clone, Copy, PartialEq, Eq)]
 pub enum Fault {
-    Field = 12,
-    Connection = 8,
-    Ends = 9,
-    DataLoop = 10,
-    ControlLoop = 11,
+    Field,
+    Connection,
+    Ends,
+    DataLoop,
+    ControlLoop,
 }
 
 // Of an accepted net: the block that each channel leaves and the one that it enters, and the two orders of its blocks.
@@ -33,12 +33,11 @@ pub struct Plan {
 }
 
 impl Fault {
-    // Document 01's number of the refusal.
-    // stays: a cast, with the clause that says which number it gives.
+    // Document 01's number of the refusal: that of the refusal that every call makes of a fault.
     pub fn number(self) -> u8
         ensures { result ≡ number_of (earned self) }
     {
-        self as u8
+        Refusal::from(self).number()
     }
 }
 
@@ -60,17 +59,24 @@ impl From<Fault> for Refusal {
 pub fn plan_of(net: Net) -> Result<Plan, Fault>
     ensures { Planned net result }
 {
-    if !fields::fields_ok(&net) {
+    check(&net)
+}
+
+// The same of a net that is lent, of which nothing is copied.
+pub fn check(net: &Net) -> Result<Plan, Fault>
+    ensures { Planned net.now result }
+{
+    if !fields::fields_ok(net) {
         return Err(Fault::Field);
     }
-    let counts = fields::counts_of(&net);
-    let producer = wiring::ends_of(true, &net, &counts).ok_or(Fault::Connection)?;
-    let consumer = wiring::ends_of(false, &net, &counts).ok_or(Fault::Connection)?;
-    if !fields::few_ends(&net) {
+    let counts = fields::counts_of(net);
+    let producer = wiring::ends_of(true, net, &counts).ok_or(Fault::Connection)?;
+    let consumer = wiring::ends_of(false, net, &counts).ok_or(Fault::Connection)?;
+    if !fields::few_ends(net) {
         return Err(Fault::Ends);
     }
-    let data = placing::order_of(false, &net, &counts, &producer).ok_or(Fault::DataLoop)?;
-    let control = placing::order_of(true, &net, &counts, &producer).ok_or(Fault::ControlLoop)?;
+    let data = placing::order_of(false, net, &counts, &producer).ok_or(Fault::DataLoop)?;
+    let control = placing::order_of(true, net, &counts, &producer).ok_or(Fault::ControlLoop)?;
     Ok(Plan {
         producer,
         consumer,

@@ -12,7 +12,7 @@ use input::say;
 use nets::Net;
 use stalls::Chain;
 use std::env::Env;
-use typed::{ListFault, NumberFault, list_in, number_in};
+use typed::{ListFault, list_in, narrowed, number_in};
 
 // The masks of an argument: so many entries of its list, one for each of the first cycles, and the mask of all later cycles.
 #[derive(Clone, Copy)]
@@ -486,15 +486,12 @@ fn number_given(rt: &HostRuntime, i: usize, wrong: &[u8]) -> Option<u32> {
         say_too_long(rt, i);
         return None;
     };
-    match number_in(&text[..n]) {
-        Ok(number) => Some(number),
-        Err(NumberFault::TooGreat) => Some(u32::MAX),
-        Err(NumberFault::NoNumber) => {
-            say_text(rt, i, &text[..n]);
-            say(rt, wrong);
-            None
-        }
+    let number = narrowed(number_in(&text[..n]));
+    if number.is_none() {
+        say_text(rt, i, &text[..n]);
+        say(rt, wrong);
     }
+    number
 }
 
 // Reads all arguments, and answers the question that they ask. Where one cannot be read, which is then said, nothing is answered.

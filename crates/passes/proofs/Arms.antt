@@ -1,16 +1,17 @@
 -- One block in a pass, by its kind's number: each arm of the code's `match` at the kind that it found.
 -- Assumes nothing.
-use Rattle.std.proofs.Common.{◌≡◌, refl, sym, ap, subst, ◌∙◌, Bool, true, false, ◌||◌, List, ℕ, ◌+◌, ◌<◌, eqb, leb, ne_eqb, lit<}
+use Rattle.std.proofs.Common.{◌≡◌, refl, sym, ap, subst, ◌∙◌, Bool, true, false, cond, ◌&&◌, ◌||◌, List, [], ℕ, ◌+◌, ◌-◌, ◌^◌, ◌≤◌, ◌<◌, eqb, leb, ltb, ne_eqb, leb-true, ltb-true, arith, lit<}
 use Rattle.blocks.specs.Kinds.{kind_of}
 use Rattle.blocks.specs.Numbers.{kind_number}
 use Rattle.blocks.specs.Ports.{m_ok, inputs_of, outputs_of}
 use Rattle.blocks.specs.Equations.{out_of, ready_of}
+use Rattle.blocks.specs.Shape.{fork_reg, merge_reg, in_shape}
 use Rattle.blocks.specs.declared.Block.{Block}
 use Rattle.blocks.specs.declared.Kind.{Kind}
 use Rattle.blocks.specs.declared.Kind.TheVariants.{Source, Sink, Operator, Constant, Fork, Mux, Demux, Merge, Buffer, FullBuffer, Control}
 use Rattle.blocks.specs.declared.Sig.{Sig}
 use Rattle.blocks.specs.declared.Reg.{Reg}
-use Rattle.blocks.proofs.Folds.{clash, or_1}
+use Rattle.blocks.proofs.Folds.{clash, and_1, and_2, or_1}
 use Rattle.blocks.proofs.Numbers.{by_kind, no_kind}
 use Rattle.ports.specs.Places.{port_at, Put}
 use Rattle.ports.specs.Worked.{next_here}
@@ -37,6 +38,28 @@ kind_low Control = lit< tt
 -- a block in its ranges has a kind
 pub in_use : (k m : ℕ) → m_ok k m ≡ true → 10 < k → ⊥
 in_use k m e h = clash e (no_kind k m h)
+
+-- ## What the fields' ranges say
+
+-- forks, muxes, demuxes and merges have an m of at least 2: at one of their numbers k the rule of m reads so
+pub m_two : (k kind m : ℕ) → kind ≡ k → m_ok k m ≡ (leb 2 m && leb m 8) → m_ok kind m ≡ true → 2 ≤ m
+m_two k kind m e rule h = leb-true 2 m (and_1 (leb 2 m) (leb m 8) (sym rule ∙ subst (λ (x : ℕ). m_ok x m ≡ true) e h))
+
+-- the registers of a merge: a winner of at most m, and marks below 4
+pub merge-fits : (k m : ℕ) (r : Reg) → k ≡ 7 → in_shape (kind_of k m 0 []) r ≡ true → (r.word ≤ m) × (r.marks < 4)
+merge-fits k m r e s =
+    let t : merge_reg m r ≡ true = subst (λ (x : ℕ). in_shape (kind_of x m 0 []) r ≡ true) e s in
+    let both : (leb r.word m && leb r.marks 2) ≡ true = and_1 (leb r.word m && leb r.marks 2) (cond (eqb r.word 0) (eqb r.marks 0) true) t in (
+      leb-true r.word m (and_1 (leb r.word m) (leb r.marks 2) both),
+      omega (arith, leb-true r.marks 2 (and_2 (leb r.word m) (leb r.marks 2) both)),
+    )
+
+-- the marks of a fork: below 2^m
+pub fork-fits : (k m : ℕ) (r : Reg) → k ≡ 4 → in_shape (kind_of k m 0 []) r ≡ true → r.marks < 2 ^ m
+fork-fits k m r e s =
+    let t : fork_reg m r ≡ true = subst (λ (x : ℕ). in_shape (kind_of x m 0 []) r ≡ true) e s in
+    let l : r.marks < 2 ^ m - 1 = ltb-true r.marks (2 ^ m - 1) (and_2 (eqb r.word 0) (ltb r.marks (2 ^ m - 1)) t) in
+    omega arith
 
 -- ## Blocks that do not rest
 

@@ -2,6 +2,7 @@
 -- Assumes nothing.
 use Prim.Native.Nat.{ℕ, zero, suc, ◌+◌, ◌*◌, ◌≤◌, ◌<◌}
 use mathlib.Core.Path.{◌≡◌, refl, sym, ap, ◌∙◌, subst}
+use mathlib.Core.Logic.{◌≢◌}
 use mathlib.Core.List.{List, [], ◌∷◌}
 use native.Mathlib.Omega.{arith}
 use native.Mathlib.Numerals.{add-one}
@@ -11,8 +12,14 @@ use lib.ListN.{length, get_or, drop, drop_of_length-le}
 use lib.Seq.{drop-cons}
 use Rattle.nets.specs.Verdict.{Joined}
 use Rattle.blocks.specs.declared.Net.{Net}
-use Rattle.placed.specs.Placed.{with_code, placed_from, placed, buffers_of, added}
+use Rattle.placed.specs.Placed.{split, with_code, placed_from, placed, buffers_of, added}
 use Rattle.placed.proofs.Placing.{code_sizes, code_joined}
+
+pub adds_one : (k : ℕ) → k ≢ 0 → k ≤ 2 → buffers_of k ≡ 1
+adds_one zero ne h = absurd (ne refl)
+adds_one (suc zero) ne h = refl
+adds_one (suc (suc zero)) ne h = refl
+adds_one (suc (suc (suc k))) ne h = absurd (omega arith)
 
 pub adds_two : (k : ℕ) → 2 < k → buffers_of k ≡ 2
 adds_two zero h = absurd (omega arith)
@@ -25,6 +32,12 @@ adds_small zero = omega arith
 adds_small (suc zero) = omega arith
 adds_small (suc (suc zero)) = omega arith
 adds_small (suc (suc (suc k))) = omega arith
+
+pub both : (net : Net) (c k : ℕ) → 2 < k → with_code net c k ≡ split (split net c 8) net.channels 10
+both net c zero h = absurd (omega arith)
+both net c (suc zero) h = absurd (omega arith)
+both net c (suc (suc zero)) h = absurd (omega arith)
+both net c (suc (suc (suc k))) h = refl
 
 module _ (codes : List ℕ) (i : ℕ) (h : i < length codes) where
   next : drop i codes ≡ get_or codes i 0 ∷ drop (i + 1) codes

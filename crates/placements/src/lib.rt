@@ -32,7 +32,7 @@ pub struct Listing {
 fn checked(net: Net) -> Result<(), Refusal>
     ensures { Earns (form_number (verdict_of net)) result }
 {
-    let Err(fault) = nets::plan_of(net) else {
+    let Err(fault) = nets::check(&net) else {
         return Ok(());
     };
     match fault {
@@ -89,7 +89,7 @@ fn place_on(base: Result<Net, Refusal>, codes: &[u8]) -> Result<Net, Refusal>
         return Err(Refusal::Room);
     }
     let made = placed::place_all(net, codes);
-    nets::plan_of(made)?;
+    nets::check(&made)?;
     Ok(made)
 }
 

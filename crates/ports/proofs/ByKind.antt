@@ -5,13 +5,13 @@ use mathlib.Core.Path.{◌≡◌, refl, sym, ap, ◌∙◌, subst}
 use mathlib.Core.Bool.{Bool}
 use native.Mathlib.Omega.{arith}
 use Rattle.blocks.specs.Kinds.{Kind}
-use Rattle.blocks.specs.Ports.{n_in}
-use Rattle.blocks.specs.Equations.{ready_of}
+use Rattle.blocks.specs.Ports.{n_in, n_out}
+use Rattle.blocks.specs.Equations.{out_of, ready_of}
 use Rattle.blocks.specs.declared.Block.{Block}
 use Rattle.blocks.specs.declared.Sig.{Sig}
 use Rattle.blocks.specs.declared.Reg.{Reg}
 use Rattle.ports.specs.Places.{port_at, Apart, Put}
-use Rattle.ports.specs.Worked.{ins_show, outs_valid, outs_ready, Backward}
+use Rattle.ports.specs.Worked.{out_at, ins_show, outs_valid, outs_ready, Forward, Backward}
 use Rattle.ports.proofs.Puts.{put_as, put_more, put_join}
 
 -- port i and the first of the ports from i on are one
@@ -21,6 +21,14 @@ port_first block i j h = let e : i ≡ i + j = omega arith in ap (port_at block)
 zero-below : (P : ℕ → Type 0) → P 0 → (j : ℕ) → j < 1 → P j
 zero-below P p zero h = p
 zero-below P p (suc j) h = absurd (omega arith)
+
+-- a block with one output
+pub one_output : (K : Kind) (mask : Bool) (r : Reg) (block : Block) (f g : ℕ → Sig) (s : Sig) → n_out K ≡ 1
+    → Put (λ j. port_at block (n_in K + j)) (λ j. s) 1 f g → s ≡ out_of K mask r (ins_show block f) 0 → Forward K mask r block f g
+one_output K mask r block f g s one p e =
+    subst (λ (n : ℕ). Put (out_at K block) (out_of K mask r (ins_show block f)) n f g) (sym one)
+    (put_as (out_at K block) (out_at K block) (λ j. s) (out_of K mask r (ins_show block f)) 1 f g (λ j h. refl)
+    (zero-below (λ j. s ≡ out_of K mask r (ins_show block f) j) e) p)
 
 -- readiness at the ports from 0 on
 from_zero : (block : Block) (j : ℕ) → port_at block (0 + j) ≡ port_at block j

@@ -8,6 +8,10 @@ use borrow.Author.Count.{below_more}
 use Rattle.ports.specs.Places.{Apart, Put}
 
 module _ {A : Type 0} where
+  -- one port
+  pub put_one : (c : ℕ) (v : A) (before after : ℕ → A) → after c ≡ v → ((k : ℕ) → (k ≡ c → ⊥) → after k ≡ before k) → Put (λ j. c) (λ j. v) 1 before after
+  put_one c v before after here there = record { own = λ j h. here; others = λ k away. there k (away 0 (omega arith)) }
+
   pub put_none : (to : ℕ → ℕ) (what : ℕ → A) (f : ℕ → A) → Put to what 0 f f
   put_none to what f = record { own = λ j h. absurd (never j h); others = λ c away. refl }
     where

@@ -4,13 +4,28 @@ use Prim.Native.Nat.{ℕ, ◌+◌, ◌<◌, ◌≤◌}
 use native.Mathlib.Omega.{arith}
 use mathlib.Core.Path.{◌≡◌, refl, ap, sym, ◌∙◌}
 use mathlib.Core.List.{List}
+use mathlib.Core.Bool.{and-false}
 use Rattle.std.proofs.Common.{Option, Some, None}
-use borrow.Author.Tests.{le-leb, lt-ltb}
+use borrow.Author.Tests.{le-leb, lt-leb, lt-ltb}
 use Rattle.reader.specs.Bits.{field_at}
 use Rattle.reader.specs.Steps.{step_of, step_at}
 use Rattle.reader.specs.declared.Field.{Field}
 
 module _ (f : List ℕ) (at w : ℕ) where
+  -- what it does not serve
+  pub far : 65536 < at → None ≡ step_at f at w
+  unfolding step_at
+  far h = rw (lt-leb at 65536 h) refl
+
+  pub empty : w ≡ 0 → None ≡ step_at f at w
+  unfolding step_at
+  empty h = rw (h, and-false) refl
+
+  pub wide : 32 < w → None ≡ step_at f at w
+  unfolding step_at
+  wide h = rw (lt-leb w 32 h, and-false, and-false) refl
+
+  -- and what it serves
   pub step_served : at ≤ 65536 → 0 < w → w ≤ 32 → step_at f at w ≡ step_of (field_at f at w) (at + w)
   unfolding step_at
   step_served near long narrow = rw (le-leb at 65536 near, lt-ltb 0 w long, le-leb w 32 narrow) refl

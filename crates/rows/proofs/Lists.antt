@@ -24,7 +24,7 @@ kind-small k m e = go (dec_lt k 11)
 abbrev pub up_to : Net → ℕ → Net
 up_to net b = record { size = b; channels = net.channels; blocks = net.blocks }
 
-listed-none : (net : Net) (kind : ℕ) → Listed (up_to net 0) kind []
+pub listed-none : (net : Net) (kind : ℕ) → Listed (up_to net 0) kind []
 listed-none net kind = record { count_is = sym (count_none (is_kind_no net kind)); each = λ k h. absurd (never k h) }
   where
     never : (k : ℕ) → k < 0 → ⊥
@@ -41,11 +41,11 @@ module _ (net : Net) (kind b : ℕ) (list : List ℕ) (l : Listed (up_to net b) 
   kept k h = let a = l.each k h in (omega (arith, a.0), a.1, a.2)
 
   -- block b is of another kind
-  listed_skip : is b ≡ false → Listed (up_to net (b + 1)) kind list
+  pub listed_skip : is b ≡ false → Listed (up_to net (b + 1)) kind list
   listed_skip f = let z : one (is b) ≡ 0 = ap one f in record { count_is = omega (arith, l.count_is, count_more is b); each = kept }
 
   -- block b is the next of the kind
-  listed_next : is b ≡ true → Listed (up_to net (b + 1)) kind (list ++ b ∷ [])
+  pub listed_next : is b ≡ true → Listed (up_to net (b + 1)) kind (list ++ b ∷ [])
   listed_next t =
       let z : one (is b) ≡ 1 = ap one t in
       record { count_is = omega (arith, length-append list (b ∷ []), l.count_is, count_more is b); each = λ k h. by k h (ℕ_discrete k (length list)) }

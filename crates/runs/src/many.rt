@@ -124,7 +124,7 @@ pub fn run_given(
     ensures value { result ≡ run_of net state (given words.entry.bytes.now words.entry.list.now) (given ends.entry.bytes.now ends.entry.list.now) (given masks.entry.bytes.now masks.entry.list.now) (length trace.old) }
     ensures trace_after { trace.new ≡ trace_after net state (given words.entry.bytes.now words.entry.list.now) (given ends.entry.bytes.now ends.entry.list.now) (given masks.entry.bytes.now masks.entry.list.now) trace.old }
 {
-    let Ok(plan) = nets::plan_of(net) else {
+    let Ok(plan) = nets::check(&net) else {
         return refused(Refusal::Net, state);
     };
     let streams = Streams { words, ends };

@@ -46,7 +46,7 @@ fn fresh_state(net: &Net) -> State
 pub fn fresh(net: Net) -> Fresh
     ensures { result ≡ fresh_of net }
 {
-    match nets::plan_of(net) {
+    match nets::check(&net) {
         Ok(_) => Fresh {
             refusal: 0,
             state: fresh_state(&net),
@@ -114,7 +114,7 @@ fn stepped(
 ) -> Result<Stepped, Refusal>
     ensures { answer_in state.now result ≡ step_of net.now state.now (read streams.entry.words) (read streams.entry.ends) offer ready }
 {
-    let Ok(plan) = nets::plan_of(*net) else {
+    let Ok(plan) = nets::check(net) else {
         return Err(Refusal::Net);
     };
     let laid = begin(net, &plan, state, streams)?;

@@ -1,4 +1,4 @@
--- Laws of following a stall: rows stand for the net, the call's answer by its refusals, what every chain is like, and what is promised of it.
+-- Laws of following a stall: from the signals to the net, the call's answer by its refusals, what every chain is like, and what is promised of it.
 pub mod Netted
 pub mod Answers
 pub mod Paths

@@ -99,7 +99,7 @@ fn followed(
 ) -> Result<Chain, Refusal>
     ensures { chain_in_answer result ≡ follow_of net.now state.now (read streams.entry.words) (read streams.entry.ends) offer ready channel }
 {
-    let Ok(plan) = nets::plan_of(*net) else {
+    let Ok(plan) = nets::check(net) else {
         return Err(Refusal::Net);
     };
     let laid = begin(net, &plan, state, streams)?;

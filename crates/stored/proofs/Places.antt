@@ -22,7 +22,7 @@ module _ (f : List ℕ) (at w : ℕ) where
   length_from = length-drop at (bits_of f) ∙ ap (λ (n : ℕ). n - at) (length_bits_of f)
 
   -- a field that the form has
-  field_value : (v : ℕ) → field_at f at w ≡ Some v → Took f (take_field w (drop at (bits_of f))) v (at + w)
+  pub field_value : (v : ℕ) → field_at f at w ≡ Some v → Took f (take_field w (drop at (bits_of f))) v (at + w)
   unfolding field_at take_field
   field_value v h = by (leb (at + w) (8 * length f)) refl h
     where
@@ -36,7 +36,7 @@ module _ (f : List ℕ) (at w : ℕ) where
       by false e h = let z : ◌≡◌ {A = ℕ} 0 1 = cc in absurd (omega arith)
 
   -- a field in which the form ends
-  field_ended : 0 < w → field_at f at w ≡ None → take_field w (drop at (bits_of f)) ≡ refused 1
+  pub field_ended : 0 < w → field_at f at w ≡ None → take_field w (drop at (bits_of f)) ≡ refused 1
   unfolding field_at take_field check
   field_ended p h = by (leb (at + w) (8 * length f)) refl h
     where
@@ -58,6 +58,10 @@ module _ (f : List ℕ) (at w : ℕ) where
 
     pub step_ended : step_at f at w ≡ None → take_field w (drop at (bits_of f)) ≡ refused 1
     step_ended h = field_ended long (step_end f at w near long narrow h)
+
+-- whatever the place and the width
+pub field_small : (f : List ℕ) (at w v : ℕ) → field_at f at w ≡ Some v → v < 2 ^ w
+field_small f at w v h = (field_back w (drop at (bits_of f)) v _ (field_value f at w v h).taken).1
 
 -- a field that has to meet a test
 module _ (f : List ℕ) (w : ℕ) (ok : ℕ → Bool) (e : ℕ) (l : List Bool) where

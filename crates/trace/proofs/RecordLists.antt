@@ -16,7 +16,7 @@ one_record : (t : Bool) (r : ℕ) → length (cond t (r ∷ []) []) ≡ bool_byt
 one_record true r = refl
 one_record false r = refl
 
-one_small : (t : Bool) → bool_byte t ≤ 1
+pub one_small : (t : Bool) → bool_byte t ≤ 1
 one_small true = omega arith
 one_small false = omega arith
 

@@ -1,7 +1,9 @@
 // What a person types: decimal numbers, and lists of them with commas between.
 #![tactic(auto)]
 
-ghost use Rattle.std.specs.Prelude.{◌≤◌, length, IfOk};
+ghost use Rattle.std.specs.Prelude.{◌≡◌, ◌≤◌, length, Decides, IfOk};
+ghost use Rattle.std.specs.Str.Parse.{IsNumeral};
+ghost use Rattle.typed.specs.Typed.{NumberOf, narrowed};
 
 // Why a text is no number of 32 bits: it has another character than digits, or nothing; it is greater.
 #[derive(Clone, Copy, PartialEq, Eq)]
@@ -17,15 +19,35 @@ pub enum ListFault {
     TooLong,
 }
 
+// Whether a text has decimal digits and nothing else, and at least one.
+fn is_number(text: &[u8]) -> bool
+    ensures { Decides result (IsNumeral 10 text.now) }
+{
+    !text.is_empty() && text.iter().all(|byte| byte.is_ascii_digit())
+}
+
 // The number that a text is in decimal digits.
-pub fn number_in(text: &[u8]) -> Result<u32, NumberFault> {
-    if text.is_empty() || !text.iter().all(|byte| byte.is_ascii_digit()) {
+pub fn number_in(text: &[u8]) -> Result<u32, NumberFault>
+    ensures { NumberOf text.now result }
+{
+    if !is_number(text) {
         return Err(NumberFault::NoNumber);
     }
     // Digits alone: now they can only be too many.
     match str::from_utf8(text) {
         Ok(digits) => digits.parse::<u32>().map_err(|_| NumberFault::TooGreat),
         Err(_) => Err(NumberFault::NoNumber),
+    }
+}
+
+// The number in 32 bits, the greatest for one that has more; none, where the text is no number.
+pub fn narrowed(number: Result<u32, NumberFault>) -> Option<u32>
+    ensures { result ≡ narrowed number }
+{
+    match number {
+        Ok(number) => Some(number),
+        Err(NumberFault::TooGreat) => Some(u32::MAX),
+        Err(NumberFault::NoNumber) => None,
     }
 }
 

@@ -31,18 +31,18 @@ pub place_all-made-requires-clause-fitting : goal.place_all-made-requires-clause
 place_all-made-requires-clause-fitting c =
     fitting c.in_ok-net.net c.args.codes.now (sym c.codes_ok.ensures ∙ c.if-not-codes_ok.false) (sym c.has_room.ensures ∙ c.if-not-has_room.false)
 
-pub returns-in_err-plan_of : goal.returns-in_err-plan_of
-returns-in_err-plan_of c =
+pub returns-in_err-check : goal.returns-in_err-check
+returns-in_err-check c =
     let codes = c.args.codes.now in
-    let e : c.from_residual-in_err-plan_of.result ≡ Err (refusal_of c.in_err-plan_of.field-0.0) = grind (arith, common_steps) in
+    let e : c.from_residual-in_err-check.result ≡ Err (refusal_of c.in_err-check.field-0.0) = grind (arith, common_steps) in
     ap answered e
     ∙ made-refused c.in_ok-net.net codes (sym c.codes_ok.ensures ∙ c.if-not-codes_ok.false) (sym c.has_room.ensures ∙ c.if-not-has_room.false)
-    c.place_all-made.result c.place_all-made.ensures c.in_err-plan_of.field-0.0 c.in_err-plan_of.ensures
+    c.place_all-made.result c.place_all-made.ensures c.in_err-check.field-0.0 c.in_err-check.ensures
     ∙ ap (λ (base : Result Net Refusal). place_on base codes) (sym c.in_ok-net.was)
 
 pub returns : goal.returns
 returns c =
     let codes = c.args.codes.now in
     made-loads c.in_ok-net.net codes (sym c.codes_ok.ensures ∙ c.if-not-codes_ok.false) (sym c.has_room.ensures ∙ c.if-not-has_room.false)
-    c.place_all-made.result c.place_all-made.ensures c.in_ok-plan_of.ensures.0
+    c.place_all-made.result c.place_all-made.ensures c.in_ok-check.ensures.0
     ∙ ap (λ (base : Result Net Refusal). place_on base codes) (sym c.in_ok-net.was)
