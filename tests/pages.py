@@ -10,8 +10,8 @@ ROOT = pathlib.Path(__file__).resolve().parent.parent
 CRATES = ROOT / "crates"
 # The notes of changes say what was so when each change landed, so they are not held to the tree of today.
 PAGES = [ROOT / "README.md", ROOT / "examples" / "README.md", ROOT / "docs" / "changes" / "README.md", *sorted((ROOT / "docs").glob("*.md"))]
-# What was written for the port, and for the pass after it, says what was so before.
-BEFORE_THE_PORT = ("PORT.md", "DESIGN-PASS.md")
+# What was written for the port, for the pass after it and for the look back at that says what was so before.
+BEFORE_THE_PORT = ("PORT.md", "DESIGN-PASS.md", "LOOK-BACK.md")
 PAGES = [path for path in PAGES if path.name not in BEFORE_THE_PORT]
 faults = []
 
